@@ -1,0 +1,203 @@
+-- Document 01, "Frames".
+use mathlib.Core.Bool.{Bool, true, false, cond, _&&_}
+use mathlib.Core.List.{List, [], _∷_, _++_, flatMap}
+use mathlib.Core.Option.{Option, none, some}
+use Prim.Native.Nat.{ℕ, _+_, _-_, _*_, _/_, _%_}
+use lib.Dec.{leb, ltb, eqb}
+use lib.IntN.{ℤ}
+use lib.ListN.{length}
+use Rattle.rules.specs.Lists.{first}
+use Rattle.rules.specs.RoomAndSoundLedger.{Name, Ledger, fresh}
+use Rattle.rules.specs.AnswerNumbers.{Value, Amount, Identifier, Version, Fence, Count, Field, YesOrNo, TheName, SnapshotBytes, Reply, BadFrame, replyOf, Outcome, Lent, sound, unsound, Answered, answered, onLent}
+use Rattle.rules.specs.AccountRules.{AccountOperation, ensure, topUp, limit, reserve, commit, release, operate}
+use Rattle.rules.specs.SnapshotsMigrationCertificates.{Snapshot, bytesOf, amountBytes, nameBytes, Reader, Reading, reads, goOn, _>>=_, readPart, readNumber, readAmount, readName, readSnapshot, whole, snapshot, restore, recoveryRestore, migrate, status, certificateOfSnapshot, certificateOfLedger, conservationProof}
+
+-- ── a line of digits to bytes ──────────────────────────────────────────────────────────────────
+
+-- "lines of lowercase hexadecimal": a character's digit, or 16 for none
+abbrev pub isBetween : ℕ → ℕ → ℕ → Bool
+isBetween low high c = leb low c && leb c high
+
+abbrev pub digitOf : ℕ → ℕ
+digitOf c = cond (isBetween 48 57 c) (c - 48) (cond (isBetween 97 102 c) (c - 87) 16)
+
+-- "odd, .. or any character but 0-9 and a-f: 23": none stands for 23
+abbrev pub byteBefore : ℕ → ℕ → Option (List ℕ) → Option (List ℕ)
+byteBefore high low none = none
+byteBefore high low (some bs) = cond (ltb high 16 && ltb low 16) (some ((high * 16 + low) ∷ bs)) none
+
+unfoldable pub bytesOfLine : List ℕ → Option (List ℕ)
+bytesOfLine [] = some []
+bytesOfLine (c ∷ []) = none
+bytesOfLine (c ∷ d ∷ cs) = byteBefore (digitOf c) (digitOf d) (bytesOfLine cs)
+
+-- ── bytes to an operation ──────────────────────────────────────────────────────────────────────
+
+pub data Operation : Type 0 where
+  onAccount : AccountOperation ℕ → Operation
+  takeSnapshot certifyLedger proveConservation : Operation
+  restoreFrom recoverFrom judge : Snapshot → Operation
+  migrateTo : (fence : ℕ) → Snapshot → Operation
+  certify : (since : ℤ) → Snapshot → Operation
+
+-- "(name, amount)"
+abbrev pub nameAndAmount : (Name → ℤ → AccountOperation ℕ) → Reader Operation
+nameAndAmount operation = do
+  a ← readName
+  z ← readAmount
+  reads (onAccount (operation a z))
+
+abbrev pub aSnapshot : (Snapshot → Operation) → Reader Operation
+aSnapshot operation = do
+  s ← readSnapshot
+  reads (operation s)
+
+pub record Code : Type 0 where
+  pub number : ℕ
+  pub body : Reader Operation
+
+abbrev pub code : ℕ → Reader Operation → Code
+code n r = record { number = n; body = r }
+
+-- "Operations: 01 ensure, 02 top-up, 03 limit, 04 reserve (name, amount); 05 commit (id, amount); 06 release (id); 07 snapshot; 08 restore,
+-- 09 recovery restore (snapshot); 0a migrate (fence, snapshot); 0b certificate; 0c certificate of a snapshot (since, snapshot); 0d proof;
+-- 0e conservation status of a snapshot."
+unfoldable pub codes : List Code
+codes =
+    code 0x01 (nameAndAmount ensure)
+    ∷ code 0x02 (nameAndAmount topUp)
+    ∷ code 0x03 (nameAndAmount limit)
+    ∷ code 0x04 (nameAndAmount reserve)
+    ∷ code 0x05 (do
+      i ← readNumber 8
+      z ← readAmount
+      reads (onAccount (commit i z)))
+    ∷ code 0x06 (do
+      i ← readNumber 8
+      reads (onAccount (release i)))
+    ∷ code 0x07 (reads takeSnapshot)
+    ∷ code 0x08 (aSnapshot restoreFrom)
+    ∷ code 0x09 (aSnapshot recoverFrom)
+    ∷ code 0x0a (do
+      fence ← readNumber 8
+      aSnapshot (migrateTo fence))
+    ∷ code 0x0b (reads certifyLedger)
+    ∷ code 0x0c (do
+      since ← readAmount
+      aSnapshot (certify since))
+    ∷ code 0x0d (reads proveConservation)
+    ∷ code 0x0e (aSnapshot judge)
+    ∷ []
+
+abbrev pub bodyOf : Option Code → Reader Operation
+bodyOf none bs = none
+bodyOf (some c) bs = c .body bs
+
+unfoldable pub readOperation : Reader Operation
+readOperation = do
+  number ← readNumber 1
+  bodyOf (first (λ c. eqb number (c .number)) codes)
+
+-- "Empty, .. short, overlong, unknown ..: 23"
+unfoldable pub operationOf : List ℕ → Option Operation
+operationOf bs = whole (readOperation bs)
+
+-- ── an operation to its answer ─────────────────────────────────────────────────────────────────
+
+-- the longest snapshot: 256 rows with names of 24 bytes. An answer line has room for it, so that no frame meets 22
+unfoldable pub longestSnapshot : ℕ
+longestSnapshot = 18 + 256 * (1 + 24 + 32)
+
+-- "Order everywhere: 23, 24, 19, then the source's order"; "migration and judging a supplied snapshot take none"
+unfoldable pub answer : Lent → Operation → Answered
+answer l (onAccount x) = onLent l (λ L. operate L x)
+answer l takeSnapshot = onLent l (snapshot longestSnapshot)
+answer l (restoreFrom s) = onLent l (λ L. restore L s)
+answer l (recoverFrom s) = onLent l (λ L. recoveryRestore L s)
+answer l certifyLedger = onLent l certificateOfLedger
+answer l proveConservation = onLent l conservationProof
+answer l (migrateTo fence s) = answered (migrate longestSnapshot fence s) l
+answer l (certify since s) = answered (certificateOfSnapshot since s) l
+answer l (judge s) = answered (status s) l
+
+-- ── a reply to its answer line ─────────────────────────────────────────────────────────────────
+
+abbrev pub flag : Bool → ℕ
+flag false = 0
+flag true = 1
+
+-- "names as in a snapshot row"; "Counts take 8 bytes, yes or no one byte."
+abbrev pub valueBytes : Value → List ℕ
+valueBytes (Amount z) = amountBytes z
+valueBytes (Identifier i) = bytesOf 8 i
+valueBytes (Version v) = bytesOf 8 v
+valueBytes (Fence f) = bytesOf 8 f
+valueBytes (Count n) = bytesOf 8 n
+valueBytes (Field f) = bytesOf 1 f
+valueBytes (YesOrNo b) = bytesOf 1 (flag b)
+valueBytes (TheName a) = nameBytes a
+valueBytes (SnapshotBytes bs) = bs
+
+-- "the answer number as a byte, then what it carries"
+unfoldable pub replyBytes : Reply → List ℕ
+replyBytes r = bytesOf 1 (r .number) ++ flatMap valueBytes (r .carried)
+
+abbrev pub characterOf : ℕ → ℕ
+characterOf d = cond (ltb d 10) (48 + d) (87 + d)
+
+unfoldable pub lineOfBytes : List ℕ → List ℕ
+lineOfBytes [] = []
+lineOfBytes (b ∷ bs) = characterOf (b / 16) ∷ characterOf (b % 16) ∷ lineOfBytes bs
+
+unfoldable pub answerLine : Reply → List ℕ
+answerLine r = lineOfBytes (replyBytes r)
+
+-- ── a line to its answer ───────────────────────────────────────────────────────────────────────
+
+abbrev pub operationOfBytes : Option (List ℕ) → Option Operation
+operationOfBytes none = none
+operationOfBytes (some bs) = operationOf bs
+
+-- "A line is at most 29,238 characters; a longer one gets one 23."
+unfoldable pub operationOfLine : List ℕ → Option Operation
+operationOfLine line = cond (ltb 29238 (length line)) none (operationOfBytes (bytesOfLine line))
+
+abbrev pub answerOr23 : Lent → Option Operation → Answered
+answerOr23 l none = answered (replyOf BadFrame) l
+answerOr23 l (some x) = answer l x
+
+unfoldable pub answerToLine : Lent → List ℕ → Answered
+answerToLine l line = answerOr23 l (operationOfLine line)
+
+-- ── a whole input to the whole output ──────────────────────────────────────────────────────────
+
+abbrev pub lineFeed : ℕ
+lineFeed = 10
+
+abbrev pub onto : ℕ → List (List ℕ) → List (List ℕ)
+onto c [] = (c ∷ []) ∷ []
+onto c (line ∷ lines) = (c ∷ line) ∷ lines
+
+-- what stands between the line feeds
+unfoldable pub pieces : List ℕ → List (List ℕ)
+pieces [] = [] ∷ []
+pieces (c ∷ cs) = let further : List (List ℕ) = pieces cs in cond (eqb c lineFeed) ([] ∷ further) (onto c further)
+
+-- "A last line without a line feed counts unless empty."
+unfoldable pub counted : List (List ℕ) → List (List ℕ)
+counted [] = []
+counted ([] ∷ []) = []
+counted ((c ∷ cs) ∷ []) = (c ∷ cs) ∷ []
+counted (line ∷ next ∷ lines) = line ∷ counted (next ∷ lines)
+
+unfoldable pub linesOf : List ℕ → List (List ℕ)
+linesOf input = counted (pieces input)
+
+-- "writes one answer line each"
+unfoldable pub answersToLines : Lent → List (List ℕ) → List ℕ
+answersToLines l [] = []
+answersToLines l (line ∷ lines) = let a : Answered = answerToLine l line in answerLine (a .reply) ++ (lineFeed ∷ answersToLines (a .lent) lines)
+
+-- "A house program (T 256, R 1,024, from a fresh ledger) reads lines .., one frame a line"
+unfoldable pub house : (input : List ℕ) → List ℕ
+house input = answersToLines (sound (fresh 256 1024)) (linesOf input)

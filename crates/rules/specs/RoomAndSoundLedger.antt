@@ -1,0 +1,194 @@
+-- Document 01, "Room and the sound ledger".
+use mathlib.Core.Path.{_≡_}
+use mathlib.Core.Logic.{_⊎_, _≢_}
+use mathlib.Core.Bool.{Bool, true, false, cond, _&&_}
+use mathlib.Core.List.{List, [], _∷_}
+use mathlib.Core.Option.{Option, none, some}
+use Prim.Native.Nat.{ℕ, _+_, _-_, _/_, _%_, _^_, _≤_, _<_, compare, Ordering, Ordering·lt, Ordering·eq, Ordering·gt}
+use lib.Dec.{leb, eqb, isEq}
+use lib.ListN.{length}
+use Rattle.rules.specs.Lists.{first, any, sum, All, Pairwise}
+
+-- "M means 2^63 - 1."
+unfoldable pub M : ℕ
+M = 2 ^ 63 - 1
+
+-- ── names ──────────────────────────────────────────────────────────────────────────────────────
+
+-- "A name is a length and 24 bytes": here the bytes within the length
+abbrev pub Name : Type 0
+Name = List ℕ
+
+abbrev pub IsByte : ℕ → Type 0
+IsByte b = b < 256
+
+pub record IsName (a : Name) : Type 0 where
+  pub fits : length a ≤ 24
+  pub bytes : All IsByte a
+
+-- "Names are ordered by bytes, a prefix first."
+abbrev pub thenBy : Ordering → Ordering → Ordering
+thenBy Ordering·lt o = Ordering·lt
+thenBy Ordering·eq o = o
+thenBy Ordering·gt o = Ordering·gt
+
+unfoldable pub order : Name → Name → Ordering
+order [] [] = Ordering·eq
+order [] (y ∷ ys) = Ordering·lt
+order (x ∷ xs) [] = Ordering·gt
+order (x ∷ xs) (y ∷ ys) = thenBy (compare x y) (order xs ys)
+
+unfoldable pub same : Name → Name → Bool
+same a b = isEq (order a b)
+
+-- ── the ledger ─────────────────────────────────────────────────────────────────────────────────
+
+-- "each account has remaining, reserved and committed at least 0": the amounts of an account are natural numbers
+pub record Account : Type 0 where
+  pub initial : ℕ
+  pub remaining : ℕ
+  pub reserved : ℕ
+  pub committed : ℕ
+
+-- What one name has: an account or none, and a limit, "0 (none) or positive"
+pub record Seat : Type 0 where
+  pub account : Option Account
+  pub limit : ℕ
+
+abbrev pub seat : Option Account → ℕ → Seat
+seat c l = record { account = c; limit = l }
+
+-- "A name holds a place while it has an account or a limit. Freed places are used again": a ledger lists the places held
+pub record Place : Type 0 where
+  pub name : Name
+  pub seat : Seat
+
+abbrev pub place : Name → Seat → Place
+place a s = record { name = a; seat = s }
+
+abbrev pub hasNothing : Option Account → ℕ → Bool
+hasNothing none l = eqb l 0
+hasNothing (some c) l = false
+
+abbrev pub isVacant : Seat → Bool
+isVacant s = hasNothing (s .account) (s .limit)
+
+-- a live reservation
+pub record Booking : Type 0 where
+  pub id : ℕ
+  pub name : Name
+  pub amount : ℕ
+
+-- "The caller lends room for T names (1 to 256) and R reservations (1 to 1,024)."
+pub record Ledger : Type 0 where
+  pub T : ℕ
+  pub R : ℕ
+  pub nextId : ℕ
+  pub lastVersion : ℕ
+  pub baseline : ℕ
+  pub places : List Place
+  pub bookings : List Booking
+
+-- ── looking up ─────────────────────────────────────────────────────────────────────────────────
+
+abbrev pub isAt : Name → Place → Bool
+isAt a p = same a (p .name)
+
+abbrev pub seatOf : Option Place → Seat
+seatOf none = seat none 0
+seatOf (some p) = p .seat
+
+unfoldable pub holdsPlace : Name → List Place → Bool
+holdsPlace a = any (isAt a)
+
+-- the seat of a name; a name that holds no place has nothing
+unfoldable pub seatIn : Name → List Place → Seat
+seatIn a ps = seatOf (first (isAt a) ps)
+
+abbrev pub hasAccount : Option Account → Bool
+hasAccount none = false
+hasAccount (some c) = true
+
+-- what a booking reserves for a name
+abbrev pub share : Name → Booking → ℕ
+share a b = cond (same a (b .name)) (b .amount) 0
+
+unfoldable pub reservedFor : Name → List Booking → ℕ
+reservedFor a = sum (share a)
+
+abbrev pub committedOf : Option Account → ℕ
+committedOf none = 0
+committedOf (some c) = c .committed
+
+abbrev pub committedAt : Place → ℕ
+committedAt p = committedOf (p .seat .account)
+
+unfoldable pub committedTotal : List Place → ℕ
+committedTotal = sum committedAt
+
+-- ── the sound ledger ───────────────────────────────────────────────────────────────────────────
+
+abbrev pub InRange : ℕ → ℕ → ℕ → Type 0
+InRange low high n = (low ≤ n) × (n ≤ high)
+
+abbrev pub Before : Place → Place → Type 0
+Before p q = order (p .name) (q .name) ≡ Ordering·lt
+
+abbrev pub AddsUp : Option Account → Type 0
+AddsUp none = Unit {0}
+AddsUp (some c) = (c .remaining + c .reserved + c .committed ≡ c .initial) × (c .initial ≤ M)
+
+abbrev pub Reserves : ℕ → Option Account → Type 0
+Reserves total none = Unit {0}
+Reserves total (some c) = c .reserved ≡ total
+
+-- "bit 63 set and the low 63 bits not zero"
+abbrev pub hasTag : ℕ → Bool
+hasTag v = eqb (v / 2 ^ 63) 1
+
+abbrev pub fenceOf : ℕ → ℕ
+fenceOf v = v % 2 ^ 63
+
+-- "A ledger is sound when": a field for each clause, in the paper's order. "Room not in use is zero" is said of lent bytes, where they are
+-- decoded; of the ledger it says that no more is in use than was lent.
+pub record Sound (L : Ledger) : Type 0 where
+  -- "T and R are in range"
+  pub names-in-range : InRange 1 256 (L .T)
+  pub reservations-in-range : InRange 1 1024 (L .R)
+  pub names-fit : length (L .places) ≤ L .T
+  pub reservations-fit : length (L .bookings) ≤ L .R
+  -- "A name is a length and 24 bytes"; "names ascend strictly"
+  pub are-names : All (λ p. IsName (p .name)) (L .places)
+  pub names-ascend : Pairwise Before (L .places)
+  -- "each account has remaining, reserved and committed at least 0, adding up exactly to initial, itself at most M"
+  pub accounts-add-up : All (λ p. AddsUp (p .seat .account)) (L .places)
+  -- "limit is 0 (none) or positive": a signed 64-bit amount, so at most M
+  pub limits : All (λ p. p .seat .limit ≤ M) (L .places)
+  -- "a name without an account has zero amounts and a positive limit"
+  pub places-held : All (λ p. isVacant (p .seat) ≡ false) (L .places)
+  -- "live reservations have strictly ascending ids from 1 to below next id, a positive amount and an existing account"
+  pub ids-ascend : Pairwise (λ b c. b .id < c .id) (L .bookings)
+  pub ids-in-range : All (λ b. (1 ≤ b .id) × (b .id < L .nextId)) (L .bookings)
+  pub amounts-positive : All (λ b. 0 < b .amount) (L .bookings)
+  pub accounts-exist : All (λ b. hasAccount (seatIn (b .name) (L .places) .account) ≡ true) (L .bookings)
+  -- "each account's reserved is the sum of its live reservations"
+  pub reserved-is-sum : All (λ p. Reserves (reservedFor (p .name) (L .bookings)) (p .seat .account)) (L .places)
+  -- "next id is 1 to M"
+  pub next-id : InRange 1 M (L .nextId)
+  -- "last version is 0 or has bit 63 set and the low 63 bits not zero"
+  pub last-version : (L .lastVersion ≡ 0) ⊎ ((hasTag (L .lastVersion) ≡ true) × (fenceOf (L .lastVersion) ≢ 0))
+  -- "the baseline is 0 up to the smaller of M and the committed total"
+  pub baseline-in-range : (L .baseline ≤ M) × (L .baseline ≤ committedTotal (L .places))
+
+-- ── a fresh ledger ─────────────────────────────────────────────────────────────────────────────
+
+-- "A fresh ledger has no names, next id 1, last version 0, baseline 0"
+unfoldable pub fresh : ℕ → ℕ → Ledger
+fresh t r = record { T = t; R = r; nextId = 1; lastVersion = 0; baseline = 0; places = []; bookings = [] }
+
+abbrev pub isInRange : ℕ → ℕ → ℕ → Bool
+isInRange low high n = leb low n && leb n high
+
+-- "making one overwrites the room, or gives 24 exactly when T or R is out of range": none stands for 24
+unfoldable pub made : ℕ → ℕ → Option Ledger
+made t r = cond (isInRange 1 256 t && isInRange 1 1024 r) (some (fresh t r)) none

@@ -1,0 +1,387 @@
+-- Document 01, "Snapshots, migration, certificates".
+use mathlib.Core.Bool.{Bool, true, false, not, cond, _&&_, _||_}
+use mathlib.Core.List.{List, [], _∷_, _++_, flatMap}
+use mathlib.Core.Option.{Option, none, some}
+use Prim.Native.Nat.{ℕ, zero, suc, _+_, _-_, _*_, _/_, _%_, _^_, min}
+use lib.Dec.{leb, ltb, eqb}
+use lib.IntN.{ℤ, pos, negsuc, _+ℤ_, _-ℤ_}
+use lib.Signed.{ltZ}
+use lib.ListN.{length, take, drop}
+use Rattle.rules.specs.Lists.{any}
+use Rattle.rules.specs.RoomAndSoundLedger.{M, Name, same, Account, seat, Place, Ledger, committedTotal, hasTag, fenceOf}
+use Rattle.rules.specs.AnswerNumbers.{Value, Amount, Version, Count, YesOrNo, SnapshotBytes, Reply, Refusal, AllocatorExhausted, ActiveReservations, DuplicateTenant, GhostReservation, NegativeLedgerField, ConservationViolation, AggregateOverflow, AlreadyRecoveryAware, InvalidAllocatorFence, LegacySnapshotRequiresMigration, NameTooLong, NamesFull, OutputTooShort, done, replyOf, Outcome, outcome, refused}
+use Rattle.rules.specs.AccountRules.{account, natural, put, isTooLong, withPlaces}
+
+-- ── snapshot bytes ─────────────────────────────────────────────────────────────────────────────
+
+pub record Row : Type 0 where
+  pub name : Name
+  pub initial : ℤ
+  pub remaining : ℤ
+  pub reserved : ℤ
+  pub committed : ℤ
+
+pub record Snapshot : Type 0 where
+  pub version : ℕ
+  pub active : ℕ
+  pub rows : List Row
+
+-- "All numbers big-endian": a number in so many bytes, and back
+unfoldable pub bytesOf : (size : ℕ) → ℕ → List ℕ
+bytesOf zero n = []
+bytesOf (suc size) n = bytesOf size (n / 256) ++ (n % 256 ∷ [])
+
+unfoldable pub numberFrom : (soFar : ℕ) → List ℕ → ℕ
+numberFrom soFar [] = soFar
+numberFrom soFar (b ∷ bs) = numberFrom (soFar * 256 + b) bs
+
+abbrev pub numberOf : List ℕ → ℕ
+numberOf bs = numberFrom 0 bs
+
+-- "signed in two's complement"
+abbrev pub twosComplement : ℤ → ℕ
+twosComplement (pos n) = n
+twosComplement (negsuc n) = 2 ^ 64 - suc n
+
+abbrev pub signed : ℕ → ℤ
+signed w = cond (ltb w (2 ^ 63)) (pos w) (negsuc (2 ^ 64 - suc w))
+
+abbrev pub amountBytes : ℤ → List ℕ
+amountBytes z = bytesOf 8 (twosComplement z)
+
+-- "name (length byte, bytes)"
+abbrev pub nameBytes : Name → List ℕ
+nameBytes a = length a ∷ a
+
+-- "rows of name (length byte, bytes), initial, remaining, reserved, committed"
+unfoldable pub rowBytes : Row → List ℕ
+rowBytes r = nameBytes (r .name) ++ amountBytes (r .initial) ++ amountBytes (r .remaining) ++ amountBytes (r .reserved) ++ amountBytes (r .committed)
+
+-- "Snapshot bytes: version (8), active count (8), row count (2, at most 256), rows"
+unfoldable pub snapshotBytes : Snapshot → List ℕ
+snapshotBytes s = bytesOf 8 (s .version) ++ bytesOf 8 (s .active) ++ bytesOf 2 (length (s .rows)) ++ flatMap rowBytes (s .rows)
+
+-- Reading: what the bytes begin with, and the bytes after it; none where they end too early
+pub record Reading (A : Type 0) : Type 0 where
+  pub value : A
+  pub rest : List ℕ
+
+abbrev pub Reader : Type 0 → Type 0
+Reader A = List ℕ → Option (Reading A)
+
+abbrev pub reads : {A : Type 0} → A → Reader A
+reads x bs = some (record { value = x; rest = bs })
+
+abbrev pub goOn : {A B : Type 0} → Option (Reading A) → (A → Reader B) → Option (Reading B)
+goOn none f = none
+goOn (some r) f = f (r .value) (r .rest)
+
+infixl 10 _>>=_
+abbrev pub _>>=_ : {A B : Type 0} → Reader A → (A → Reader B) → Reader B
+_>>=_ m f bs = goOn (m bs) f
+
+unfoldable pub readPart : (size : ℕ) → Reader (List ℕ)
+readPart size bs = cond (ltb (length bs) size) none (some (record { value = take size bs; rest = drop size bs }))
+
+unfoldable pub readNumber : (size : ℕ) → Reader ℕ
+readNumber size = do
+  part ← readPart size
+  reads (numberOf part)
+
+unfoldable pub readAmount : Reader ℤ
+readAmount = do
+  word ← readNumber 8
+  reads (signed word)
+
+unfoldable pub readName : Reader Name
+readName = do
+  size ← readNumber 1
+  readPart size
+
+unfoldable pub readRow : Reader Row
+readRow = do
+  a ← readName
+  initial ← readAmount
+  remaining ← readAmount
+  reserved ← readAmount
+  committed ← readAmount
+  reads (record { name = a; initial = initial; remaining = remaining; reserved = reserved; committed = committed })
+
+unfoldable pub readRows : (count : ℕ) → Reader (List Row)
+readRows zero = reads []
+readRows (suc count) = do
+  r ← readRow
+  rs ← readRows count
+  reads (r ∷ rs)
+
+-- "row count (2, at most 256)"
+abbrev pub atMost256 : ℕ → Reader ℕ
+atMost256 count bs = cond (ltb 256 count) none (reads count bs)
+
+unfoldable pub readCount : Reader ℕ
+readCount = do
+  count ← readNumber 2
+  atMost256 count
+
+unfoldable pub readSnapshot : Reader Snapshot
+readSnapshot = do
+  version ← readNumber 8
+  active ← readNumber 8
+  count ← readCount
+  rows ← readRows count
+  reads (record { version = version; active = active; rows = rows })
+
+-- "A wrong length or more than 256 rows is 23": bytes that are left over are a wrong length too. none stands for 23
+abbrev pub whole : {A : Type 0} → Option (Reading A) → Option A
+whole none = none
+whole (some r) = cond (eqb (length (r .rest)) 0) (some (r .value)) none
+
+unfoldable pub snapshotOfBytes : List ℕ → Option Snapshot
+snapshotOfBytes bs = whole (readSnapshot bs)
+
+-- A name of more than 24 bytes in such bytes: 19, on any operation that is handed a snapshot
+unfoldable pub hasLongName : List Row → Bool
+hasLongName = any (λ r. isTooLong (r .name))
+
+-- ── snapshot ───────────────────────────────────────────────────────────────────────────────────
+
+abbrev pub rowOf : Name → Account → Row
+rowOf a c = record { name = a; initial = pos (c .initial); remaining = pos (c .remaining); reserved = pos (c .reserved); committed = pos (c .committed) }
+
+abbrev pub rowAt : Name → Option Account → List Row → List Row
+rowAt a none rs = rs
+rowAt a (some c) rs = rowOf a c ∷ rs
+
+-- "Accounts ascend by name": the places do
+unfoldable pub accountRows : List Place → List Row
+accountRows [] = []
+accountRows (p ∷ ps) = rowAt (p .name) (p .seat .account) (accountRows ps)
+
+-- the version that carries a fence
+abbrev pub tagged : ℕ → ℕ
+tagged fence = 2 ^ 63 + fence
+
+-- "next id grows by 1 and the version is 2^63 plus the new next id, stored as last version"
+abbrev pub afterSnapshot : Ledger → Ledger
+afterSnapshot L = record { T = L .T; R = L .R; nextId = suc (L .nextId); lastVersion = tagged (suc (L .nextId)); baseline = L .baseline; places = L .places; bookings = L .bookings }
+
+abbrev pub snapshotOf : Ledger → Snapshot
+snapshotOf L = record { version = tagged (suc (L .nextId)); active = length (L .bookings); rows = accountRows (L .places) }
+
+-- "next id M gives 9", of whatever takes a snapshot
+unfoldable pub takingSnapshot : Ledger → Outcome → Outcome
+takingSnapshot L taken = cond (eqb (L .nextId) M) (refused AllocatorExhausted L) taken
+
+-- an answer that hands out a snapshot's bytes: "Output too short gives 22"
+abbrev pub tooShortFor : (output : ℕ) → Snapshot → Bool
+tooShortFor output s = ltb output (length (snapshotBytes s))
+
+-- "Snapshot: next id M gives 9; output too short gives 22; else .."
+unfoldable pub snapshot : (output : ℕ) → Ledger → Outcome
+snapshot output L =
+    takingSnapshot L
+    (cond (tooShortFor output (snapshotOf L)) (refused OutputTooShort L)
+    (outcome (done (SnapshotBytes (snapshotBytes (snapshotOf L)) ∷ [])) (afterSnapshot L)))
+
+-- ── checks in their order ──────────────────────────────────────────────────────────────────────
+
+-- all checks pass
+abbrev pub passes : Option Refusal
+passes = none
+
+-- a check that fails decides, and else what stands after it
+infixr 5 _gives_else_
+abbrev pub _gives_else_ : Bool → Refusal → Option Refusal → Option Refusal
+fails gives e else later = cond fails (some e) later
+
+-- what was checked earlier decides, and then what is checked later
+unfoldable pub andThen : Option Refusal → Option Refusal → Option Refusal
+andThen (some e) later = some e
+andThen none later = later
+
+abbrev pub isNegative : ℤ → Bool
+isNegative z = ltZ z (pos 0)
+
+abbrev pub equals : ℤ → ℤ → Bool
+equals (pos m) (pos n) = eqb m n
+equals (pos m) (negsuc n) = false
+equals (negsuc m) (pos n) = false
+equals (negsuc m) (negsuc n) = eqb m n
+
+-- signed 64 bits
+abbrev pub fits64 : ℤ → Bool
+fits64 (pos n) = leb n M
+fits64 (negsuc n) = leb n M
+
+-- ── conservation ───────────────────────────────────────────────────────────────────────────────
+
+-- "Conservation of one row: the exact sum of remaining, reserved and committed; outside signed 64 bits gives 15. If the sum isn't
+-- initial, delta = sum - initial gives 14, or 15 if delta doesn't fit. If remaining is negative, 14 with remaining as delta."
+unfoldable pub rowConservation : Row → Option Refusal
+rowConservation r =
+    let exact : ℤ = r .remaining +ℤ r .reserved +ℤ r .committed in
+    let delta : ℤ = exact -ℤ r .initial in
+    let differs : Bool = not (equals exact (r .initial)) in
+    not (fits64 exact) gives AggregateOverflow else
+    (differs && not (fits64 delta)) gives AggregateOverflow else
+    differs gives ConservationViolation (r .name) delta else
+    isNegative (r .remaining) gives ConservationViolation (r .name) (r .remaining) else
+    passes
+
+-- "The first bad row decides."
+unfoldable pub conservation : List Row → Option Refusal
+conservation [] = none
+conservation (r ∷ rs) = andThen (rowConservation r) (conservation rs)
+
+-- ── ledger validation ──────────────────────────────────────────────────────────────────────────
+
+-- "then for each row: 11 (name seen earlier), 12 (reserved not 0), 13 for fields 1, 2, 3"
+unfoldable pub rowValidation : (seen : List Name) → Row → Option Refusal
+rowValidation seen r =
+    any (same (r .name)) seen gives DuplicateTenant (r .name) else
+    not (equals (r .reserved) (pos 0)) gives GhostReservation (r .name) (r .reserved) else
+    isNegative (r .remaining) gives NegativeLedgerField (r .name) 1 (r .remaining) else
+    isNegative (r .initial) gives NegativeLedgerField (r .name) 2 (r .initial) else
+    isNegative (r .committed) gives NegativeLedgerField (r .name) 3 (r .committed) else
+    passes
+
+unfoldable pub rowsValidation : (seen : List Name) → List Row → Option Refusal
+rowsValidation seen [] = none
+rowsValidation seen (r ∷ rs) = andThen (rowValidation seen r) (rowsValidation (r .name ∷ seen) rs)
+
+-- "Ledger validation: active count above 0 gives 10; then for each row ..; then conservation over all rows (14 or 15)."
+unfoldable pub validation : Snapshot → Option Refusal
+validation s =
+    ltb 0 (s .active) gives ActiveReservations (s .active) else
+    andThen (rowsValidation [] (s .rows)) (conservation (s .rows))
+
+-- ── restore ────────────────────────────────────────────────────────────────────────────────────
+
+-- "Restore: version without bit 63 or with low bits 0 gives 13, empty name, field 4, value = version or M if larger"
+unfoldable pub restoreVersion : ℕ → Option Refusal
+restoreVersion v = (not (hasTag v) || eqb (fenceOf v) 0) gives NegativeLedgerField [] 4 (pos (min v M)) else passes
+
+-- "The recovery form gives 18 without bit 63, then 17 carrying 0, then the same."
+unfoldable pub recoveryVersion : ℕ → Option Refusal
+recoveryVersion v = not (hasTag v) gives LegacySnapshotRequiresMigration else eqb (fenceOf v) 0 gives InvalidAllocatorFence 0 else passes
+
+-- the rows as places, ascending by name, without limits
+unfoldable pub restoredPlaces : List Row → List Place
+restoredPlaces [] = []
+restoredPlaces (r ∷ rs) = put (r .name) (seat (account (natural (r .initial)) (natural (r .remaining)) 0 (natural (r .committed))) 0) (restoredPlaces rs)
+
+-- "It clears live reservations and limits, sets next id to the low 63 bits, last version, and the baseline to the committed total or M."
+abbrev pub restored : Ledger → Snapshot → Ledger
+restored L s =
+    let ps : List Place = restoredPlaces (s .rows) in
+    record { T = L .T; R = L .R; nextId = fenceOf (s .version); lastVersion = s .version; baseline = min (committedTotal ps) M; places = ps; bookings = [] }
+
+abbrev pub orElse : Option Refusal → Ledger → Ledger → Outcome
+orElse none L after = outcome (done []) after
+orElse (some e) L after = refused e L
+
+-- "then validation; more rows than T gives 20"
+abbrev pub restoreBy : (ℕ → Option Refusal) → Ledger → Snapshot → Outcome
+restoreBy version L s =
+    orElse
+    (hasLongName (s .rows) gives NameTooLong else
+    andThen (version (s .version))
+    (andThen (validation s)
+    (ltb (L .T) (length (s .rows)) gives NamesFull else passes)))
+    L (restored L s)
+
+unfoldable pub restore : Ledger → Snapshot → Outcome
+restore L s = restoreBy restoreVersion L s
+
+unfoldable pub recoveryRestore : Ledger → Snapshot → Outcome
+recoveryRestore L s = restoreBy recoveryVersion L s
+
+-- ── without a ledger: migration, status, certificate of a snapshot ─────────────────────────────
+
+abbrev pub replyOr : Option Refusal → Reply → Reply
+replyOr none r = r
+replyOr (some e) r = replyOf e
+
+abbrev pub withVersion : ℕ → Snapshot → Snapshot
+withVersion v s = record { version = v; active = s .active; rows = s .rows }
+
+-- "Migration: bit 63 set gives 16; fence 0 or above M gives 17; validation; the same snapshot with version 2^63 plus fence.
+-- Output too short gives 22."
+unfoldable pub migrate : (output : ℕ) → (fence : ℕ) → Snapshot → Reply
+migrate output fence s =
+    let migrated : Snapshot = withVersion (tagged fence) s in
+    replyOr
+    (hasLongName (s .rows) gives NameTooLong else
+    hasTag (s .version) gives AlreadyRecoveryAware else
+    (eqb fence 0 || ltb M fence) gives InvalidAllocatorFence fence else
+    andThen (validation s)
+    (tooShortFor output migrated gives OutputTooShort else passes))
+    (done (SnapshotBytes (snapshotBytes migrated) ∷ []))
+
+-- conservation status of a supplied snapshot
+unfoldable pub status : Snapshot → Reply
+status s = replyOr (hasLongName (s .rows) gives NameTooLong else conservation (s .rows)) (done [])
+
+unfoldable pub exactTotal : (Row → ℤ) → List Row → ℤ
+exactTotal of [] = pos 0
+exactTotal of (r ∷ rs) = of r +ℤ exactTotal of rs
+
+abbrev pub initialTotal : List Row → ℤ
+initialTotal rs = exactTotal (λ r. r .initial) rs
+
+abbrev pub committedRowsTotal : List Row → ℤ
+committedRowsTotal rs = exactTotal (λ r. r .committed) rs
+
+abbrev pub totalsFit : List Row → Bool
+totalsFit rs = fits64 (initialTotal rs) && fits64 (committedRowsTotal rs)
+
+abbrev pub isNone : Option Refusal → Bool
+isNone none = true
+isNone (some e) = false
+
+-- "version, rows, active, balanced, initial total, committed total, representable, since. If either exact total doesn't fit, both are 0
+-- and representable and balanced are 0."
+unfoldable pub certificate : Snapshot → (since : ℤ) → Reply
+certificate s since =
+    let representable : Bool = totalsFit (s .rows) in
+    done
+    (Version (s .version)
+    ∷ Count (length (s .rows))
+    ∷ Count (s .active)
+    ∷ YesOrNo (representable && isNone (conservation (s .rows)))
+    ∷ Amount (cond representable (initialTotal (s .rows)) (pos 0))
+    ∷ Amount (cond representable (committedRowsTotal (s .rows)) (pos 0))
+    ∷ YesOrNo representable
+    ∷ Amount since
+    ∷ [])
+
+-- "Certificate over a supplied snapshot and a given since"
+unfoldable pub certificateOfSnapshot : (since : ℤ) → Snapshot → Reply
+certificateOfSnapshot since s = replyOr (hasLongName (s .rows) gives NameTooLong else passes) (certificate s since)
+
+-- ── certificate of the ledger, conservation proof ──────────────────────────────────────────────
+
+abbrev pub withBaseline : ℕ → Ledger → Ledger
+withBaseline n L = record { T = L .T; R = L .R; nextId = L .nextId; lastVersion = L .lastVersion; baseline = n; places = L .places; bookings = L .bookings }
+
+-- "Certificate of the ledger: takes a snapshot (9 possible ..). Since is committed total less baseline, and the baseline moves, only if the
+-- totals fit and the total is larger; else 0."
+unfoldable pub certificateOfLedger : Ledger → Outcome
+certificateOfLedger L =
+    let s : Snapshot = snapshotOf L in
+    let total : ℕ = committedTotal (L .places) in
+    takingSnapshot L
+    (cond (totalsFit (s .rows) && ltb (L .baseline) total)
+    (outcome (certificate s (pos (total - L .baseline))) (withBaseline total (afterSnapshot L)))
+    (outcome (certificate s (pos 0)) (afterSnapshot L)))
+
+-- "Proof: takes a snapshot (9), then 15 if totals don't fit, else version, accounts, active, both totals, 1."
+unfoldable pub conservationProof : Ledger → Outcome
+conservationProof L =
+    let s : Snapshot = snapshotOf L in
+    takingSnapshot L
+    (cond (totalsFit (s .rows))
+    (outcome
+    (done (Version (s .version) ∷ Count (length (s .rows)) ∷ Count (s .active) ∷ Amount (initialTotal (s .rows)) ∷ Amount (committedRowsTotal (s .rows)) ∷ YesOrNo true ∷ []))
+    (afterSnapshot L))
+    (refused AggregateOverflow (afterSnapshot L)))
