@@ -78,6 +78,10 @@ module _ {A : Type 0} where
   all-both P Q S f [] h k = tt
   all-both P Q S f (x ∷ xs) (h, h′) (k, k′) = (f x h k, all-both P Q S f xs h′ k′)
 
+  pub all-parts : (P : A → Type 0) (xs ys : List A) → All P (xs ++ ys) → All P xs × All P ys
+  all-parts P [] ys h = (tt, h)
+  all-parts P (x ∷ xs) ys (h, k) = let (a, b) = all-parts P xs ys k in ((h, a), b)
+
   pub all-keep : (P : A → Type 0) (g : A → Bool) (xs : List A) → All P xs → All P (keep g xs)
   unfolding keep
   all-keep P g [] h = tt

@@ -54,6 +54,11 @@ unfolding seated
 seatIn-seated-other b a s ps n = by-test (λ l. seatIn b l ≡ seatIn b ps) (isVacant s)
     (λ e. unfold seatIn freed in ap seatOf (first-keep (isAt b) _ ps (λ p t. not-at b a p n t))) (λ e. seatIn-put-other b a s ps n)
 
+-- what holds of every place's seat, and of a name that has nothing, holds of every name's seat
+pub seatIn-all : (P : Seat → Type 0) (ps : List Place) → P (seat none 0) → All (λ p. P (p .seat)) ps → (a : Name) → P (seatIn a ps)
+unfolding seatIn
+seatIn-all P ps n h a = by-option (λ o. first (isAt a) ps ≡ o → P (seatOf o)) (first (isAt a) ps) (λ _ _. n) (λ p _ e. first-all (λ p. P (p .seat)) (isAt a) ps p h e) refl
+
 -- ── what comes after a name ────────────────────────────────────────────────────────────────────
 
 abbrev pub Over : Name → Place → Type 0

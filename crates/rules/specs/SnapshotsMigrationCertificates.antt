@@ -8,7 +8,7 @@ use lib.IntN.{ℤ, pos, negsuc, _+ℤ_, _-ℤ_}
 use lib.Signed.{ltZ}
 use lib.ListN.{length, take, drop}
 use Rattle.rules.specs.Lists.{any}
-use Rattle.rules.specs.RoomAndSoundLedger.{M, Name, same, Account, seat, Place, Ledger, committedTotal, hasTag, fenceOf}
+use Rattle.rules.specs.RoomAndSoundLedger.{M, Name, same, Account, Seat, seat, Place, Ledger, committedTotal, hasTag, fenceOf}
 use Rattle.rules.specs.AnswerNumbers.{Value, Amount, Version, Count, YesOrNo, SnapshotBytes, Reply, Refusal, AllocatorExhausted, ActiveReservations, DuplicateTenant, GhostReservation, NegativeLedgerField, ConservationViolation, AggregateOverflow, AlreadyRecoveryAware, InvalidAllocatorFence, LegacySnapshotRequiresMigration, NameTooLong, NamesFull, OutputTooShort, done, replyOf, Outcome, outcome, refused}
 use Rattle.rules.specs.AccountRules.{account, natural, put, isTooLong, withPlaces}
 
@@ -191,7 +191,7 @@ passes = none
 
 -- a check that fails decides, and else what stands after it
 infixr 5 _gives_else_
-abbrev pub _gives_else_ : Bool → Refusal → Option Refusal → Option Refusal
+unfoldable pub _gives_else_ : Bool → Refusal → Option Refusal → Option Refusal
 fails gives e else later = cond fails (some e) later
 
 -- what was checked earlier decides, and then what is checked later
@@ -265,40 +265,41 @@ restoreVersion v = (not (hasTag v) || eqb (fenceOf v) 0) gives NegativeLedgerFie
 unfoldable pub recoveryVersion : ℕ → Option Refusal
 recoveryVersion v = not (hasTag v) gives LegacySnapshotRequiresMigration else eqb (fenceOf v) 0 gives InvalidAllocatorFence 0 else passes
 
--- the rows as places, ascending by name, without limits
+-- the rows as places, ascending by name; "It clears live reservations and limits"
+abbrev pub restoredSeat : Row → Seat
+restoredSeat r = seat (account (natural (r .initial)) (natural (r .remaining)) 0 (natural (r .committed))) 0
+
 unfoldable pub restoredPlaces : List Row → List Place
 restoredPlaces [] = []
-restoredPlaces (r ∷ rs) = put (r .name) (seat (account (natural (r .initial)) (natural (r .remaining)) 0 (natural (r .committed))) 0) (restoredPlaces rs)
+restoredPlaces (r ∷ rs) = put (r .name) (restoredSeat r) (restoredPlaces rs)
 
--- "It clears live reservations and limits, sets next id to the low 63 bits, last version, and the baseline to the committed total or M."
+-- ".. sets next id to the low 63 bits, last version, and the baseline to the committed total or M."
 abbrev pub restored : Ledger → Snapshot → Ledger
 restored L s =
     let ps : List Place = restoredPlaces (s .rows) in
     record { T = L .T; R = L .R; nextId = fenceOf (s .version); lastVersion = s .version; baseline = min (committedTotal ps) M; places = ps; bookings = [] }
 
-abbrev pub orElse : Option Refusal → Ledger → Ledger → Outcome
+unfoldable pub orElse : Option Refusal → Ledger → Ledger → Outcome
 orElse none L after = outcome (done []) after
 orElse (some e) L after = refused e L
 
 -- "then validation; more rows than T gives 20"
-abbrev pub restoreBy : (ℕ → Option Refusal) → Ledger → Snapshot → Outcome
-restoreBy version L s =
-    orElse
-    (hasLongName (s .rows) gives NameTooLong else
-    andThen (version (s .version))
+unfoldable pub restoreRefusal : (ofVersion : Option Refusal) → (t : ℕ) → Snapshot → Option Refusal
+restoreRefusal ofVersion t s =
+    hasLongName (s .rows) gives NameTooLong else
+    andThen ofVersion
     (andThen (validation s)
-    (ltb (L .T) (length (s .rows)) gives NamesFull else passes)))
-    L (restored L s)
+    (ltb t (length (s .rows)) gives NamesFull else passes))
 
 unfoldable pub restore : Ledger → Snapshot → Outcome
-restore L s = restoreBy restoreVersion L s
+restore L s = orElse (restoreRefusal (restoreVersion (s .version)) (L .T) s) L (restored L s)
 
 unfoldable pub recoveryRestore : Ledger → Snapshot → Outcome
-recoveryRestore L s = restoreBy recoveryVersion L s
+recoveryRestore L s = orElse (restoreRefusal (recoveryVersion (s .version)) (L .T) s) L (restored L s)
 
 -- ── without a ledger: migration, status, certificate of a snapshot ─────────────────────────────
 
-abbrev pub replyOr : Option Refusal → Reply → Reply
+unfoldable pub replyOr : Option Refusal → Reply → Reply
 replyOr none r = r
 replyOr (some e) r = replyOf e
 

@@ -1,0 +1,129 @@
+-- A frame's line: its bytes have no other line, and an operation read from it lies within what the theorems about operations suppose.
+use mathlib.Core.Path.{_≡_, refl, subst}
+use mathlib.Core.Bool.{Bool, true, false, _&&_}
+use mathlib.Core.List.{List, [], _∷_, _++_}
+use mathlib.Core.Option.{some}
+use Prim.Native.Nat.{ℕ, _+_, _-_, _*_, _/_, _%_, _≤_, _<_}
+use native.Mathlib.Nat.{div-add-mod'}
+use native.Mathlib.Omega.{arith}
+use borrow.Author.Tests.{ltb-true, ltb-false, lt-ltb, le-ltb, leb-true, le-leb, lt-leb}
+use lib.Arith.{digits-div, digits-mod}
+use lib.Dec.{leb, ltb, eqb}
+use lib.IntN.{ℤ}
+use lib.ListN.{length}
+use Rattle.rules.specs.Lists.{first, All}
+use Rattle.rules.specs.RoomAndSoundLedger.{Name, IsByte}
+use Rattle.rules.specs.AccountRules.{AccountOperation, ensure, topUp, limit, reserve}
+use Rattle.rules.specs.SnapshotsMigrationCertificates.{Snapshot, bytesOf}
+use Rattle.rules.specs.Frames.{isBetween, digitOf, byteBefore, bytesOfLine, Operation, restoreFrom, recoverFrom, judge, migrateTo, certify, nameAndAmount, aSnapshot, codes, bodyOf, readOperation, operationOf, characterOf, lineOfBytes, operationOfBytes, operationOfLine}
+use Rattle.rules.specs.Domain.{IsAmount, IsBytes, AccountOperationFits, SnapshotFits, OperationFits}
+use Rattle.rules.proofs.Tests.{by-test, by-option, none-some, and-true}
+use Rattle.rules.proofs.Lists.{first-all}
+use Rattle.rules.proofs.Reading.{Read, ReadsAfter, only-reads, only-then, whole-only, number-only, amount-only, name-only}
+use Rattle.rules.proofs.SnapshotBytes.{readSnapshot-only}
+
+-- ── digits and their characters ────────────────────────────────────────────────────────────────
+
+between : (low high c : ℕ) → isBetween low high c ≡ true → (low ≤ c) × (c ≤ high)
+between low high c e = let (a, b) = and-true (leb low c) (leb c high) e in (leb-true low c a, leb-true c high b)
+
+digit-of-character : (d : ℕ) → d < 16 → digitOf (characterOf d) ≡ d
+digit-of-character d h = by-test (λ c. digitOf c ≡ d) (ltb d 10)
+    (λ t. let l : d < 10 = ltb-true d 10 t in
+    rw (le-leb 48 (48 + d) (omega arith), le-leb (48 + d) 57 (omega arith)) (omega arith))
+    (λ t. let l : 10 ≤ d = ltb-false d 10 t in
+    rw (le-leb 48 (87 + d) (omega arith), lt-leb (87 + d) 57 (omega arith), le-leb 97 (87 + d) (omega arith), le-leb (87 + d) 102 (omega arith)) (omega arith))
+
+character-of-digit : (c : ℕ) → digitOf c < 16 → characterOf (digitOf c) ≡ c
+character-of-digit c = by-test (λ d. d < 16 → characterOf d ≡ c) (isBetween 48 57 c)
+    (λ t h. let (l, m) = between 48 57 c t in rw (lt-ltb (c - 48) 10 (omega arith)) (omega arith))
+    (λ _. by-test (λ d. d < 16 → characterOf d ≡ c) (isBetween 97 102 c)
+    (λ t h. let (l, m) = between 97 102 c t in rw (le-ltb (c - 87) 10 (omega arith)) (omega arith))
+    (λ _ h. absurd (omega arith)))
+
+-- ── a line and its bytes ───────────────────────────────────────────────────────────────────────
+
+pub line-back : (bs : List ℕ) → All IsByte bs → bytesOfLine (lineOfBytes bs) ≡ some bs
+unfolding bytesOfLine lineOfBytes
+line-back [] h = refl
+line-back (b ∷ bs) (h, k) =
+    let high : b / 16 < 16 = omega arith in
+    let low : b % 16 < 16 = omega arith in
+    rw (digit-of-character (b / 16) high, digit-of-character (b % 16) low, line-back bs k, lt-ltb (b / 16) 16 high, lt-ltb (b % 16) 16 low, div-add-mod' b 16)
+
+-- the bytes of a line, and that they have no other
+abbrev pub OnlyLine : (line bs : List ℕ) → Type 0
+OnlyLine line bs = All IsByte bs × (lineOfBytes bs ≡ line)
+
+pub line-only : (line bs : List ℕ) → bytesOfLine line ≡ some bs → OnlyLine line bs
+unfolding bytesOfLine lineOfBytes
+line-only [] bs e = let q : [] ≡ bs = cc in subst (OnlyLine []) q (tt, refl)
+line-only (c ∷ []) bs e = none-some e
+line-only (c ∷ d ∷ cs) bs e = by-option (λ o. byteBefore (digitOf c) (digitOf d) o ≡ some bs → OnlyLine (c ∷ d ∷ cs) bs) (bytesOfLine cs)
+    (λ _ q. none-some q)
+    (λ rest p. by-test (λ o. o ≡ some bs → OnlyLine (c ∷ d ∷ cs) bs) (ltb (digitOf c) 16 && ltb (digitOf d) 16)
+    (λ t q. let (a, b) = and-true (ltb (digitOf c) 16) (ltb (digitOf d) 16) t in
+    let high : digitOf c < 16 = ltb-true (digitOf c) 16 a in
+    let low : digitOf d < 16 = ltb-true (digitOf d) 16 b in
+    let (bytes, is) = line-only cs rest p in
+    let v : (digitOf c * 16 + digitOf d) ∷ rest ≡ bs = cc in
+    subst (OnlyLine (c ∷ d ∷ cs)) v ((omega arith, bytes), rw (digits-div (digitOf c) low, digits-mod (digitOf c) low, character-of-digit c high, character-of-digit d low, is)))
+    (λ t q. none-some q)) e
+
+-- ── an operation read fits ─────────────────────────────────────────────────────────────────────
+
+-- no bytes of an operation are defined: of what is read, only that it fits
+abbrev Fitting : List ℕ → Operation → Type 0
+Fitting part x = OperationFits x
+
+module _ (before : List ℕ) where
+  name-and-amount-fit : (operation : Name → ℤ → AccountOperation ℕ) → ((a : Name) (z : ℤ) → IsBytes a → IsAmount z → AccountOperationFits (operation a z)) → ReadsAfter before (nameAndAmount operation) Fitting
+  name-and-amount-fit operation h = only-then name-only λ a (bytes, _). only-then amount-only λ z amount. only-reads (h a z bytes amount)
+
+  snapshot-fits : (operation : Snapshot → Operation) → ((s : Snapshot) → SnapshotFits s → OperationFits (operation s)) → ReadsAfter before (aSnapshot operation) Fitting
+  snapshot-fits operation h = only-then readSnapshot-only λ s fits. only-reads (h s fits)
+
+infixr 5 _and_
+abbrev _and_ : {A B : Type 0} → A → B → A × B
+a and b = (a, b)
+
+-- code by code
+bodies-fit : (before : List ℕ) → All (λ c. ReadsAfter before (c .body) Fitting) codes
+unfolding codes
+bodies-fit before =
+    name-and-amount-fit before ensure (λ a z h k. (h, k))
+    and name-and-amount-fit before topUp (λ a z h k. (h, k))
+    and name-and-amount-fit before limit (λ a z h k. (h, k))
+    and name-and-amount-fit before reserve (λ a z h k. (h, k))
+    and only-then (number-only 8) (λ i _. only-then amount-only λ z amount. only-reads amount)
+    and only-then (number-only 8) (λ i _. only-reads tt)
+    and only-reads tt
+    and snapshot-fits before restoreFrom (λ s h. h)
+    and snapshot-fits before recoverFrom (λ s h. h)
+    and only-then (number-only 8) (λ fence h. snapshot-fits _ (migrateTo fence) (λ s k. (h, k)))
+    and only-reads tt
+    and only-then amount-only (λ since h. snapshot-fits _ (certify since) (λ s k. (h, k)))
+    and only-reads tt
+    and snapshot-fits before judge (λ s h. h)
+    and tt
+
+operation-read : ReadsAfter [] readOperation Fitting
+unfolding readOperation
+operation-read = only-then (number-only 1) λ n h. record {
+  read = λ bs bytes r. by-option (λ o. bodyOf o bs ≡ some r → Read Fitting (bytesOf 1 n ++ bs) r) (first (λ c. eqb n (c .number)) codes)
+      (λ _ q. none-some q)
+      (λ c p q. first-all (λ c. ReadsAfter (bytesOf 1 n) (c .body) Fitting) _ codes c (bodies-fit (bytesOf 1 n)) p .read bs bytes r q);
+}
+
+pub operation-fits : (bs : List ℕ) → All IsByte bs → (x : Operation) → operationOf bs ≡ some x → OperationFits x
+unfolding operationOf
+operation-fits bs bytes x e = whole-only operation-read bs bytes x e
+
+-- whatever characters the line has
+pub line-fits : (line : List ℕ) (x : Operation) → operationOfLine line ≡ some x → OperationFits x
+unfolding operationOfLine
+line-fits line x e = by-test (λ o. o ≡ some x → OperationFits x) (ltb 29238 (length line))
+    (λ _ q. none-some q)
+    (λ _. by-option (λ o. operationOfBytes o ≡ some x → OperationFits x) (bytesOfLine line)
+    (λ _ q. none-some q)
+    (λ bs p q. operation-fits bs (line-only line bs p .0) x q)) e
