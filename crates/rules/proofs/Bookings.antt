@@ -1,17 +1,16 @@
 -- Laws of the bookings: what is found by an id, before and after one is added or ended.
-use mathlib.Core.Path.{_≡_, refl, sym, _∙_, ap, subst}
+use mathlib.Core.Path.{_≡_, refl, sym, _∙_}
 use mathlib.Core.Logic.{_⊎_, inl, inr, _≢_}
-use mathlib.Core.Bool.{Bool, true, false, not, cond}
+use mathlib.Core.Bool.{true, false, not, cond}
 use mathlib.Core.List.{List, [], _∷_, _++_}
 use mathlib.Core.Option.{Option, none, some}
 use Prim.Native.Nat.{ℕ, _+_, _≤_, _<_}
 use native.Mathlib.Omega.{arith}
 use borrow.Author.Tests.{eqb-true, eq-eqb, ne-eqb}
-use lib.Dec.{eqb}
 use Rattle.rules.specs.Lists.{first, keep, sum, All, Pairwise}
 use Rattle.rules.specs.RoomAndSoundLedger.{Booking}
 use Rattle.rules.specs.AccountRules.{hasId, booked, ended}
-use Rattle.rules.proofs.Tests.{by-bool, equal-or-not}
+use Rattle.rules.proofs.Tests.{by-bool}
 use Rattle.rules.proofs.Lists.{first-passes, first-all, first-none, first-keep, first-keep-none, first-more, first-last, all-map, keep-all}
 
 abbrev pub Below : Booking → Booking → Type 0

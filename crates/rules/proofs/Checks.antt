@@ -1,21 +1,21 @@
 -- What it says of a snapshot and its rows that the checks of a restore pass.
-use mathlib.Core.Path.{_≡_, refl, sym, _∙_, ap, subst}
-use mathlib.Core.Bool.{Bool, true, false, not, cond, _&&_, _||_}
+use mathlib.Core.Path.{_≡_, refl, ap}
+use mathlib.Core.Bool.{Bool, true, false, not}
 use mathlib.Core.List.{List, [], _∷_}
 use mathlib.Core.Option.{Option, none, some}
-use Prim.Native.Nat.{ℕ, zero, suc, _+_, _^_, _≤_, _<_}
+use Prim.Native.Nat.{ℕ, _+_, _≤_}
 use native.Mathlib.Omega.{arith}
-use borrow.Author.Tests.{ltb-false, eqb-true, eqb-false, not-false}
-use lib.Dec.{ltb, eqb}
-use lib.IntN.{ℤ, pos, negsuc, _+ℤ_, _-ℤ_}
+use borrow.Author.Tests.{ltb-false, eqb-true, not-false}
+use lib.Dec.{eqb}
+use lib.IntN.{ℤ, pos, negsuc, _+ℤ_}
 use lib.ListN.{length}
 use Rattle.rules.specs.Lists.{any, All}
 use Rattle.rules.specs.RoomAndSoundLedger.{Name, same, hasTag, fenceOf}
-use Rattle.rules.specs.AnswerNumbers.{Refusal, AggregateOverflow}
+use Rattle.rules.specs.AnswerNumbers.{Refusal}
 use Rattle.rules.specs.AccountRules.{natural, isTooLong}
-use Rattle.rules.specs.SnapshotsMigrationCertificates.{Row, Snapshot, hasLongName, passes, _gives_else_, andThen, isNegative, equals, fits64, rowConservation, conservation, rowValidation, rowsValidation, validation, restoreVersion, recoveryVersion, restoreRefusal}
+use Rattle.rules.specs.SnapshotsMigrationCertificates.{Row, Snapshot, hasLongName, _gives_else_, andThen, isNegative, equals, rowConservation, conservation, rowValidation, rowsValidation, validation, restoreVersion, recoveryVersion, restoreRefusal}
 use Rattle.rules.proofs.Tests.{true-false, or-false}
-use Rattle.rules.proofs.Lists.{all-both, none-any}
+use Rattle.rules.proofs.Lists.{none-any}
 
 -- ── checks in their order ──────────────────────────────────────────────────────────────────────
 

@@ -1,12 +1,11 @@
 -- Commit's delta, a signed difference, in natural numbers: it is above remaining exactly when actual is above remaining plus the reserved
 -- amount, and else remaining less delta is what that sum leaves over actual.
-use mathlib.Core.Path.{_≡_, refl, sym, _∙_, ap}
-use mathlib.Core.Bool.{Bool, true, false, cond}
+use mathlib.Core.Path.{_≡_, refl, sym, ap}
 use Prim.Native.Nat.{ℕ, zero, suc, _+_, _-_, _≤_, _<_}
 use native.Mathlib.Omega.{arith}
 use borrow.Author.Tests.{ltb-true, ltb-false, lt-ltb, le-ltb}
 use lib.Dec.{ltb}
-use lib.IntN.{ℤ, pos, negsuc, _+ℤ_, _-ℤ_, subℕ}
+use lib.IntN.{pos, _-ℤ_, subℕ}
 use lib.Signed.{ltZ}
 use Rattle.rules.specs.AccountRules.{natural}
 use Rattle.rules.proofs.Tests.{by-test, by-bool}

@@ -1,16 +1,14 @@
 -- A line of any characters keeps a sound ledger sound, so every ledger that the house program comes to is sound; each line has one answer
 -- line; and a frame's answer has room for any snapshot of a sound ledger, so that no frame meets 22.
 use mathlib.Core.Path.{_≡_, refl, sym}
-use mathlib.Core.Bool.{Bool, true, false}
+use mathlib.Core.Bool.{false}
 use mathlib.Core.List.{List, [], _∷_, _++_, append-assoc}
-use mathlib.Core.Option.{none, some}
-use Prim.Native.Nat.{ℕ, _≤_}
+use Prim.Native.Nat.{ℕ}
 use native.Mathlib.Omega.{arith}
-use lib.ListN.{length}
 use Rattle.rules.specs.RoomAndSoundLedger.{Ledger, Sound, fresh}
-use Rattle.rules.specs.AnswerNumbers.{Lent, sound, Answered}
-use Rattle.rules.specs.SnapshotsMigrationCertificates.{accountRows, snapshotOf, tooShortFor}
-use Rattle.rules.specs.Frames.{longestSnapshot, operationOfLine, answerOr23, answerToLine, answerLine, lineFeed, linesOf, answersToLines, house}
+use Rattle.rules.specs.AnswerNumbers.{Lent, sound}
+use Rattle.rules.specs.SnapshotsMigrationCertificates.{snapshotOf, tooShortFor}
+use Rattle.rules.specs.Frames.{longestSnapshot, operationOfLine, answerOr23, answerToLine, answerLine, lineFeed, answersToLines}
 use Rattle.rules.proofs.Tests.{by-option}
 use Rattle.rules.proofs.SnapshotSoundness.{LentSound, answer-sound, fresh-sound}
 use Rattle.rules.proofs.OwnSnapshot.{rows-length, own-names-short}

@@ -16,3 +16,4 @@ pub mod SnapshotBytes
 pub mod FrameBytes
 pub mod EveryLine
 pub mod MarkedCases
+pub mod FurtherCases

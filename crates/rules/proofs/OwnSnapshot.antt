@@ -1,21 +1,19 @@
 -- A sound ledger's own snapshot: it fits its bytes, it is balanced, and restoring one that was taken with no live booking gives back the
 -- same accounts, next id and version.
 use mathlib.Core.Path.{_≡_, refl, sym, _∙_, ap, subst}
-use mathlib.Core.Bool.{Bool, true, false, not, cond, _||_}
+use mathlib.Core.Bool.{false, cond}
 use mathlib.Core.List.{List, [], _∷_}
 use mathlib.Core.Option.{Option, none, some}
-use Prim.Native.Nat.{ℕ, suc, _+_, _^_, _≤_, _<_, min, Ordering, Ordering·lt}
+use Prim.Native.Nat.{ℕ, suc, _+_, _≤_, Ordering·lt}
 use native.Mathlib.Omega.{arith}
 use borrow.Author.Tests.{le-leb, le-ltb, eq-eqb, ne-eqb}
-use lib.Dec.{leb, ltb, eqb}
-use lib.IntN.{ℤ, pos, negsuc, _+ℤ_, _-ℤ_}
 use lib.ListN.{length}
 use Rattle.rules.specs.Lists.{first, any, sum, All, Pairwise}
-use Rattle.rules.specs.RoomAndSoundLedger.{M, Name, IsName, order, same, Account, Seat, seat, Place, place, Ledger, isAt, seatOf, seatIn, reservedFor, Before, AddsUp, Reserves, hasTag, fenceOf, Sound}
-use Rattle.rules.specs.AnswerNumbers.{Refusal, done, Outcome, outcome}
-use Rattle.rules.specs.AccountRules.{inserted, put, isTooLong, nextIdIsM}
-use Rattle.rules.specs.SnapshotsMigrationCertificates.{Row, Snapshot, hasLongName, rowOf, rowAt, accountRows, tagged, afterSnapshot, snapshotOf, _gives_else_, andThen, isNegative, rowConservation, conservation, rowValidation, rowsValidation, validation, restoreVersion, recoveryVersion, restoredSeat, restoredPlaces, restored, orElse, restoreRefusal, restore, recoveryRestore}
-use Rattle.rules.specs.Domain.{IsAmount, RowFits, SnapshotFits}
+use Rattle.rules.specs.RoomAndSoundLedger.{M, Name, IsName, order, same, Account, Seat, seat, Place, place, Ledger, isAt, seatOf, seatIn, reservedFor, Before, AddsUp, Reserves, Sound}
+use Rattle.rules.specs.AnswerNumbers.{Refusal, done, Outcome}
+use Rattle.rules.specs.AccountRules.{put, isTooLong, nextIdIsM}
+use Rattle.rules.specs.SnapshotsMigrationCertificates.{Row, hasLongName, rowOf, rowAt, accountRows, afterSnapshot, snapshotOf, _gives_else_, andThen, rowConservation, conservation, rowValidation, rowsValidation, validation, restoreVersion, recoveryVersion, restoredSeat, restoredPlaces, restored, orElse, restoreRefusal, restore, recoveryRestore}
+use Rattle.rules.specs.Domain.{RowFits, SnapshotFits}
 use Rattle.rules.proofs.Tests.{by-bool, by-option}
 use Rattle.rules.proofs.Lists.{all-map, all-both, any-none}
 use Rattle.rules.proofs.Names.{lt-other, other, same-true, same-false}

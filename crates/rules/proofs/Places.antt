@@ -1,20 +1,18 @@
 -- Laws of the places: what a seat written, or freed, means to every name's seat, to the order, the count and the committed total.
 use mathlib.Core.Path.{_≡_, refl, sym, _∙_, ap, subst}
-use mathlib.Core.Logic.{_⊎_, inl, inr}
 use mathlib.Core.Bool.{Bool, true, false, not, cond, _||_, false≢true}
 use mathlib.Core.List.{List, [], _∷_}
 use mathlib.Core.Option.{Option, none, some}
-use Prim.Native.Nat.{ℕ, suc, _+_, _≤_, _<_, Ordering, Ordering·lt, Ordering·eq, Ordering·gt}
+use Prim.Native.Nat.{ℕ, suc, _+_, Ordering·lt}
 use native.Mathlib.Omega.{arith}
-use borrow.Author.Tests.{eqb-true, ltb-true}
-use lib.Dec.{ltb, eqb}
+use borrow.Author.Tests.{eqb-true}
 use lib.ListN.{length}
 use Rattle.rules.specs.Lists.{first, any, keep, sum, All, Pairwise}
 use Rattle.rules.specs.RoomAndSoundLedger.{Name, order, same, Account, Seat, seat, Place, place, hasNothing, isVacant, isAt, seatOf, holdsPlace, seatIn, hasAccount, committedOf, committedAt, committedTotal, Before}
 use Rattle.rules.specs.AccountRules.{inserted, put, freed, seated}
 use Rattle.rules.proofs.Tests.{by-test, by-bool, by-option, by-order, true-false}
-use Rattle.rules.proofs.Lists.{first-passes, first-all, first-none, first-any, any-none, first-keep, first-keep-none, all-map, all-keep, pairwise-keep, length-keep}
-use Rattle.rules.proofs.Names.{order-eq, order-flip, order-trans, same-self, same-true, same-false, other, same-or-not, lt-other, gt-other}
+use Rattle.rules.proofs.Lists.{first-all, first-none, first-any, any-none, first-keep, first-keep-none, all-map}
+use Rattle.rules.proofs.Names.{order-eq, order-flip, order-trans, same-self, same-true, same-false, other, lt-other, gt-other}
 
 -- ── the two laws of a seat written ─────────────────────────────────────────────────────────────
 

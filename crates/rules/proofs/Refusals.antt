@@ -1,20 +1,20 @@
 -- Every answer is done or one of the table's refusals; a refusal changes nothing, save the two marked rows: 6 with a cost above 0 draws an id,
 -- and 15 from a conservation proof has taken its snapshot.
 use mathlib.Core.Path.{_≡_, refl}
-use mathlib.Core.Bool.{Bool, true, false, cond, _&&_}
-use mathlib.Core.List.{List, [], _∷_}
+use mathlib.Core.Bool.{Bool, _&&_}
+use mathlib.Core.List.{List}
 use mathlib.Core.Option.{Option, none, some}
-use Prim.Native.Nat.{ℕ, zero, suc, _+_, _≤_}
+use Prim.Native.Nat.{ℕ, zero, suc, _+_}
 use native.Mathlib.Omega.{arith}
-use lib.Dec.{ltb, eqb}
+use lib.Dec.{ltb}
 use lib.IntN.{ℤ, pos, negsuc}
 use lib.ListN.{length}
-use Rattle.rules.specs.RoomAndSoundLedger.{M, Name, Account, Seat, Booking, Ledger, seatIn, committedTotal, InRange}
-use Rattle.rules.specs.AnswerNumbers.{Reply, done, Refusal, NegativeAmount, InvalidAmount, MissingTenant, OverflowOfReserve, OverflowOfCommit, OverflowOfTopUp, ExposureLimitExceeded, Insufficient, MissingReservation, Overrun, AllocatorExhausted, ActiveReservations, DuplicateTenant, GhostReservation, NegativeLedgerField, ConservationViolation, AggregateOverflow, AlreadyRecoveryAware, InvalidAllocatorFence, LegacySnapshotRequiresMigration, NameTooLong, NamesFull, ReservationsFull, OutputTooShort, BadFrame, UnsoundLedger, replyOf, Outcome, Lent, sound, unsound, Answered, answered, onLent}
-use Rattle.rules.specs.AccountRules.{Move, refuse, tell, write, lose, book, Settlement, leave, end, ensureRule, topUpRule, limitRule, Checked, stopped, passed, reserveChecks, reserveRule, commitRule, commitOfNone, releaseRule, readRule, readReservedRule, hasRoom, booked, drawn, perform, settle, AccountOperation, ensure, topUp, limit, reserve, commit, release, readRemaining, readInitial, readCommitted, readReserved, isTooLong, named, onName, onBooking, nextIdIsM, operate}
-use Rattle.rules.specs.SnapshotsMigrationCertificates.{Snapshot, snapshotOf, afterSnapshot, takingSnapshot, tooShortFor, snapshot, totalsFit, restored, restoreRefusal, orElse, restoreVersion, recoveryVersion, restore, recoveryRestore, replyOr, migrate, status, certificate, certificateOfSnapshot, certificateOfLedger, conservationProof}
-use Rattle.rules.specs.Frames.{Operation, onAccount, takeSnapshot, certifyLedger, proveConservation, restoreFrom, recoverFrom, judge, migrateTo, certify, answer, operationOfLine, answerOr23, answerToLine}
-use Rattle.rules.proofs.Tests.{by-test, by-option}
+use Rattle.rules.specs.RoomAndSoundLedger.{M, Name, Account, Booking, Ledger, committedTotal, InRange}
+use Rattle.rules.specs.AnswerNumbers.{Reply, Refusal, NegativeAmount, InvalidAmount, MissingTenant, OverflowOfReserve, OverflowOfCommit, OverflowOfTopUp, ExposureLimitExceeded, Insufficient, MissingReservation, Overrun, AllocatorExhausted, ActiveReservations, DuplicateTenant, GhostReservation, NegativeLedgerField, ConservationViolation, AggregateOverflow, AlreadyRecoveryAware, InvalidAllocatorFence, LegacySnapshotRequiresMigration, NameTooLong, NamesFull, ReservationsFull, OutputTooShort, BadFrame, UnsoundLedger, replyOf, Outcome, sound, Answered, answered, onLent}
+use Rattle.rules.specs.AccountRules.{Move, refuse, tell, write, lose, book, Settlement, leave, end, ensureRule, topUpRule, limitRule, reserveChecks, reserveRule, commitRule, commitOfNone, releaseRule, readRule, readReservedRule, hasRoom, booked, drawn, perform, settle, AccountOperation, ensure, topUp, limit, reserve, commit, release, readRemaining, readInitial, readCommitted, readReserved, isTooLong, named, onName, onBooking, nextIdIsM, operate}
+use Rattle.rules.specs.SnapshotsMigrationCertificates.{snapshotOf, afterSnapshot, takingSnapshot, tooShortFor, snapshot, totalsFit, orElse, restore, recoveryRestore, replyOr, migrate, status, certificate, certificateOfSnapshot, certificateOfLedger, conservationProof}
+use Rattle.rules.specs.Frames.{Operation, onAccount, takeSnapshot, certifyLedger, proveConservation, restoreFrom, recoverFrom, judge, migrateTo, certify, answer, operationOfLine, answerToLine}
+use Rattle.rules.proofs.Tests.{by-test}
 
 -- What an answer may have done to the sound ledger L that was lent
 pub data Answers (L : Ledger) (x : Operation) (r : Answered) : Type 0 where

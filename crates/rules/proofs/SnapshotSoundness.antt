@@ -1,27 +1,26 @@
 -- Snapshots, certificates, conservation proofs and restores keep a sound ledger sound; so does every operation, and every line of characters.
-use mathlib.Core.Path.{_≡_, refl, sym, _∙_, ap, subst}
-use mathlib.Core.Logic.{_⊎_, inl, inr, _≢_}
-use mathlib.Core.Bool.{Bool, true, false, cond, _&&_}
+use mathlib.Core.Path.{_≡_, refl, _∙_, ap, subst}
+use mathlib.Core.Logic.{inl, inr, _≢_}
+use mathlib.Core.Bool.{Bool, true, false, _&&_}
 use mathlib.Core.List.{List, [], _∷_}
 use mathlib.Core.Option.{Option, none, some}
-use Prim.Native.Nat.{ℕ, zero, suc, _+_, _-_, _/_, _%_, _^_, _≤_, _<_, min}
+use Prim.Native.Nat.{ℕ, suc, _+_, _/_, _^_, _≤_}
 use native.Mathlib.Omega.{arith}
-use native.Mathlib.Nat.{mod-lt}
 use borrow.Author.Tests.{leb-true, ltb-false, eqb-false, eq-eqb}
-use lib.Dec.{leb, ltb, eqb}
-use lib.IntN.{ℤ, pos, negsuc, _+ℤ_}
+use lib.Dec.{ltb}
+use lib.IntN.{pos}
 use lib.ListN.{length}
 use Rattle.rules.specs.Lists.{sum, All, Pairwise}
-use Rattle.rules.specs.RoomAndSoundLedger.{M, Name, IsName, Account, Seat, seat, Place, place, Ledger, holdsPlace, seatIn, hasAccount, reservedFor, committedOf, committedTotal, InRange, Before, hasTag, fenceOf, isVacant, Sound, fresh}
+use Rattle.rules.specs.RoomAndSoundLedger.{M, IsName, Account, seat, Place, place, Ledger, holdsPlace, reservedFor, committedOf, committedTotal, InRange, Before, hasTag, fenceOf, isVacant, Sound, fresh}
 use Rattle.rules.specs.AnswerNumbers.{Refusal, Outcome, Lent, sound, unsound, onLent}
-use Rattle.rules.specs.AccountRules.{account, natural, put, isTooLong, nextIdIsM, operate}
-use Rattle.rules.specs.SnapshotsMigrationCertificates.{Row, Snapshot, rowAt, accountRows, tagged, afterSnapshot, snapshotOf, takingSnapshot, tooShortFor, snapshot, fits64, exactTotal, initialTotal, committedRowsTotal, totalsFit, restoredSeat, restoredPlaces, restored, orElse, restoreVersion, recoveryVersion, restoreRefusal, restore, recoveryRestore, withBaseline, certificate, certificateOfLedger, conservationProof, migrate, status, certificateOfSnapshot}
+use Rattle.rules.specs.AccountRules.{account, natural, isTooLong, nextIdIsM}
+use Rattle.rules.specs.SnapshotsMigrationCertificates.{Row, Snapshot, rowAt, accountRows, tagged, afterSnapshot, snapshotOf, takingSnapshot, tooShortFor, snapshot, fits64, exactTotal, initialTotal, committedRowsTotal, totalsFit, restoredSeat, restoredPlaces, restored, orElse, restoreVersion, recoveryVersion, restoreRefusal, restore, recoveryRestore, certificateOfLedger, conservationProof}
 use Rattle.rules.specs.Frames.{Operation, onAccount, takeSnapshot, certifyLedger, proveConservation, restoreFrom, recoverFrom, judge, migrateTo, certify, longestSnapshot, answer}
-use Rattle.rules.specs.Domain.{IsAmount, RowFits, SnapshotFits, OperationFits}
+use Rattle.rules.specs.Domain.{RowFits, SnapshotFits, OperationFits}
 use Rattle.rules.proofs.Tests.{by-test, by-option, and-true}
 use Rattle.rules.proofs.Lists.{all-map, all-both}
 use Rattle.rules.proofs.Places.{seatIn-all, all-put, ascend-put, more, length-put}
-use Rattle.rules.proofs.SoundByName.{AccountSound, PlacesSound, BookingsSound, SoundByName, by-name, by-place}
+use Rattle.rules.proofs.SoundByName.{AccountSound, SoundByName, by-name, by-place}
 use Rattle.rules.proofs.Soundness.{bookings-after-draw, not-last, operate-sound}
 use Rattle.rules.proofs.Checks.{Restorable, VersionPasses, restore-version-passes, recovery-version-passes, RestorePasses, restore-passes}
 

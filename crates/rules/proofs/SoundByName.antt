@@ -1,8 +1,8 @@
 -- A sound ledger name by name: for every name, the account that it has, or that nothing is reserved for it. This is the paper's soundness,
 -- which goes place by place, in the form in which one airline's change is seen to leave every other alone. The two are proved equal.
-use mathlib.Core.Path.{_≡_, refl, sym, _∙_, ap, subst}
+use mathlib.Core.Path.{_≡_, refl, sym, ap, subst}
 use mathlib.Core.Logic.{_⊎_, _≢_}
-use mathlib.Core.Bool.{Bool, true, false, cond}
+use mathlib.Core.Bool.{true, false, cond}
 use mathlib.Core.List.{List, [], _∷_}
 use mathlib.Core.Option.{Option, none, some}
 use Prim.Native.Nat.{ℕ, _+_, _≤_, _<_}

@@ -11,10 +11,10 @@ use lib.Dec.{ltb, eqb}
 use lib.IntN.{ℤ, pos, negsuc, _-ℤ_}
 use lib.Signed.{ltZ}
 use lib.ListN.{length, length-append}
-use Rattle.rules.specs.Lists.{first, sum, All}
-use Rattle.rules.specs.RoomAndSoundLedger.{M, Name, IsName, same, Account, Seat, seat, Place, place, Booking, Ledger, hasNothing, isVacant, isAt, seatOf, holdsPlace, seatIn, hasAccount, share, reservedFor, committedOf, committedTotal, Sound, fresh}
-use Rattle.rules.specs.AnswerNumbers.{Refusal, NameTooLong, MissingReservation, Outcome}
-use Rattle.rules.specs.AccountRules.{Move, refuse, tell, write, lose, book, Settlement, leave, end, natural, ensureRule, topUpRule, limitRule, Checked, stopped, passed, reserveChecks, reserveRule, commitRule, commitOfNone, releaseRule, readRule, readReservedRule, put, freed, seated, hasRoom, booked, ended, perform, settle, AccountOperation, ensure, topUp, limit, reserve, commit, release, readRemaining, readInitial, readCommitted, readReserved, isTooLong, named, onName, onBooking, nextIdIsM, operate}
+use Rattle.rules.specs.Lists.{first, All}
+use Rattle.rules.specs.RoomAndSoundLedger.{M, Name, IsName, same, Account, Seat, seat, Place, Booking, Ledger, hasNothing, isVacant, isAt, seatOf, holdsPlace, seatIn, hasAccount, share, reservedFor, committedOf, committedTotal, Sound}
+use Rattle.rules.specs.AnswerNumbers.{Refusal, MissingReservation, Outcome}
+use Rattle.rules.specs.AccountRules.{Move, refuse, tell, write, lose, book, Settlement, leave, end, ensureRule, topUpRule, limitRule, Checked, stopped, passed, reserveChecks, reserveRule, commitRule, commitOfNone, releaseRule, readRule, readReservedRule, put, freed, seated, hasRoom, booked, ended, perform, settle, AccountOperation, ensure, topUp, limit, reserve, commit, release, readRemaining, readInitial, readCommitted, readReserved, isTooLong, named, onName, onBooking, nextIdIsM, operate}
 use Rattle.rules.specs.Domain.{IsAmount, IsBytes, AccountOperationFits}
 use Rattle.rules.proofs.Tests.{by-test, by-bool, by-option}
 use Rattle.rules.proofs.Lists.{first-passes, first-all, all-map, all-keep, all-more, pairwise-keep, pairwise-more, length-keep, sum-more}

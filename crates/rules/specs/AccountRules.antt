@@ -10,7 +10,7 @@ use lib.Signed.{ltZ}
 use lib.ListN.{length}
 use Rattle.rules.specs.Lists.{first, keep}
 use Rattle.rules.specs.RoomAndSoundLedger.{M, Name, order, Account, Seat, seat, Place, place, Booking, Ledger, isVacant, isAt, holdsPlace, seatIn, hasAccount, committedTotal}
-use Rattle.rules.specs.AnswerNumbers.{Value, Amount, Identifier, Count, Version, Reply, Refusal, NegativeAmount, InvalidAmount, MissingTenant, OverflowOfReserve, OverflowOfCommit, OverflowOfTopUp, ExposureLimitExceeded, Insufficient, MissingReservation, Overrun, AggregateOverflow, NameTooLong, NamesFull, ReservationsFull, done, replyOf, Outcome, outcome, refused}
+use Rattle.rules.specs.AnswerNumbers.{Amount, Identifier, Count, Version, Reply, Refusal, NegativeAmount, InvalidAmount, MissingTenant, OverflowOfReserve, OverflowOfCommit, OverflowOfTopUp, ExposureLimitExceeded, Insufficient, MissingReservation, Overrun, AggregateOverflow, NameTooLong, NamesFull, ReservationsFull, done, replyOf, Outcome, outcome, refused}
 
 -- What a rule decides. `tell`: done, with these amounts, and nothing changes. `write`: done, and the seat is now this one.
 -- `lose`: refused, but an id is drawn. `book`: the id drawn is granted for this cost; carries remaining and the id

@@ -1,10 +1,10 @@
 -- Document 01, "Answer numbers".
 use mathlib.Core.Bool.{Bool}
-use mathlib.Core.List.{List, [], _∷_, map}
+use mathlib.Core.List.{List, [], _∷_}
 use mathlib.Core.Option.{Option, none, some}
 use Prim.Native.Nat.{ℕ}
 use lib.IntN.{ℤ, pos}
-use Rattle.rules.specs.RoomAndSoundLedger.{Name, Ledger, made}
+use Rattle.rules.specs.RoomAndSoundLedger.{Name, Ledger}
 
 -- What an answer can carry
 pub data Value : Type 0 where

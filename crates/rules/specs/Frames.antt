@@ -7,10 +7,10 @@ use lib.Dec.{leb, ltb, eqb}
 use lib.IntN.{ℤ}
 use lib.ListN.{length}
 use Rattle.rules.specs.Lists.{first}
-use Rattle.rules.specs.RoomAndSoundLedger.{Name, Ledger, fresh}
-use Rattle.rules.specs.AnswerNumbers.{Value, Amount, Identifier, Version, Fence, Count, Field, YesOrNo, TheName, SnapshotBytes, Reply, BadFrame, replyOf, Outcome, Lent, sound, unsound, Answered, answered, onLent}
+use Rattle.rules.specs.RoomAndSoundLedger.{Name, fresh}
+use Rattle.rules.specs.AnswerNumbers.{Value, Amount, Identifier, Version, Fence, Count, Field, YesOrNo, TheName, SnapshotBytes, Reply, BadFrame, replyOf, Lent, sound, Answered, answered, onLent}
 use Rattle.rules.specs.AccountRules.{AccountOperation, ensure, topUp, limit, reserve, commit, release, operate}
-use Rattle.rules.specs.SnapshotsMigrationCertificates.{Snapshot, bytesOf, amountBytes, nameBytes, Reader, Reading, reads, goOn, _>>=_, readPart, readNumber, readAmount, readName, readSnapshot, whole, snapshot, restore, recoveryRestore, migrate, status, certificateOfSnapshot, certificateOfLedger, conservationProof}
+use Rattle.rules.specs.SnapshotsMigrationCertificates.{Snapshot, bytesOf, amountBytes, nameBytes, Reader, reads, _>>=_, readNumber, readAmount, readName, readSnapshot, whole, snapshot, restore, recoveryRestore, migrate, status, certificateOfSnapshot, certificateOfLedger, conservationProof}
 
 -- ── a line of digits to bytes ──────────────────────────────────────────────────────────────────
 

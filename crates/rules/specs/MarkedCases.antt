@@ -3,11 +3,11 @@ use mathlib.Core.List.{List, [], _∷_, map}
 use Prim.Native.Nat.{ℕ, _+_, _-_, _^_}
 use Prim.Native.Char.{code}
 use Prim.Native.String.{String, [] as []ᵗ, _∷_ as _∷ᵗ_}
-use lib.IntN.{ℤ, pos}
+use lib.IntN.{pos}
 use Rattle.rules.specs.RoomAndSoundLedger.{M, Name, fresh}
 use Rattle.rules.specs.AnswerNumbers.{Amount, Identifier, Reply, Insufficient, MissingTenant, ExposureLimitExceeded, OverflowOfReserve, OverflowOfCommit, OverflowOfTopUp, Overrun, NegativeLedgerField, AllocatorExhausted, Lent, sound, unsound, Answered, answered, done, replyOf}
 use Rattle.rules.specs.AccountRules.{AccountOperation, ensure, topUp, limit, reserve, commit, doneWith}
-use Rattle.rules.specs.SnapshotsMigrationCertificates.{Row, Snapshot, tagged}
+use Rattle.rules.specs.SnapshotsMigrationCertificates.{Snapshot, tagged}
 use Rattle.rules.specs.Frames.{Operation, onAccount, takeSnapshot, restoreFrom, answer}
 
 -- the characters of a text
@@ -18,14 +18,16 @@ charactersOf (c ∷ᵗ s) = code c ∷ charactersOf s
 unfoldable pub Q1 : Name
 Q1 = charactersOf "Q1"
 
--- A case: the operations from a fresh ledger, the answer to the last of them, and the next id after it
+-- A case: T and R, the operations from a fresh ledger, the answer to the last of them, and the next id after it
 pub record Case : Type 0 where
+  pub T : ℕ
+  pub R : ℕ
   pub operations : List Operation
   pub answer : Reply
   pub nextId : ℕ
 
 abbrev pub case : List Operation → Reply → ℕ → Case
-case xs r n = record { operations = xs; answer = r; nextId = n }
+case xs r n = record { T = 256; R = 1024; operations = xs; answer = r; nextId = n }
 
 -- after an account Q1 with 100
 abbrev pub with100 : List (AccountOperation ℕ) → List Operation
@@ -86,7 +88,9 @@ nextIdOf unsound = 0
 nextIdOf (sound L) = L .nextId
 
 unfoldable pub ran : Case → Case
-ran c = let last : Answered = answersTo (answered (done []) (sound (fresh 256 1024))) (c .operations) in case (c .operations) (last .reply) (nextIdOf (last .lent))
+ran c =
+    let last : Answered = answersTo (answered (done []) (sound (fresh (c .T) (c .R)))) (c .operations) in
+    record { T = c .T; R = c .R; operations = c .operations; answer = last .reply; nextId = nextIdOf (last .lent) }
 
 -- ── the whole case of "Frames" ─────────────────────────────────────────────────────────────────
 

@@ -9,8 +9,8 @@ use lib.Signed.{ltZ}
 use lib.ListN.{length, take, drop}
 use Rattle.rules.specs.Lists.{any}
 use Rattle.rules.specs.RoomAndSoundLedger.{M, Name, same, Account, Seat, seat, Place, Ledger, committedTotal, hasTag, fenceOf}
-use Rattle.rules.specs.AnswerNumbers.{Value, Amount, Version, Count, YesOrNo, SnapshotBytes, Reply, Refusal, AllocatorExhausted, ActiveReservations, DuplicateTenant, GhostReservation, NegativeLedgerField, ConservationViolation, AggregateOverflow, AlreadyRecoveryAware, InvalidAllocatorFence, LegacySnapshotRequiresMigration, NameTooLong, NamesFull, OutputTooShort, done, replyOf, Outcome, outcome, refused}
-use Rattle.rules.specs.AccountRules.{account, natural, put, isTooLong, withPlaces}
+use Rattle.rules.specs.AnswerNumbers.{Amount, Version, Count, YesOrNo, SnapshotBytes, Reply, Refusal, AllocatorExhausted, ActiveReservations, DuplicateTenant, GhostReservation, NegativeLedgerField, ConservationViolation, AggregateOverflow, AlreadyRecoveryAware, InvalidAllocatorFence, LegacySnapshotRequiresMigration, NameTooLong, NamesFull, OutputTooShort, done, replyOf, Outcome, outcome, refused}
+use Rattle.rules.specs.AccountRules.{account, natural, put, isTooLong}
 
 -- ── snapshot bytes ─────────────────────────────────────────────────────────────────────────────
 
