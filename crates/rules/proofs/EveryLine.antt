@@ -1,15 +1,19 @@
 -- A line of any characters keeps a sound ledger sound, so every ledger that the house program comes to is sound; each line has one answer
 -- line; and a frame's answer has room for any snapshot of a sound ledger, so that no frame meets 22.
-use mathlib.Core.Path.{_≡_, refl, sym}
+use mathlib.Core.Path.{_≡_, refl, sym, _∙_, ap}
 use mathlib.Core.Bool.{false}
 use mathlib.Core.List.{List, [], _∷_, _++_, append-assoc}
-use Prim.Native.Nat.{ℕ}
+use Prim.Native.Nat.{ℕ, _/_, _%_, _<_}
 use native.Mathlib.Omega.{arith}
+use borrow.Author.Tests.{lt-ltb, ne-eqb}
+use lib.Dec.{ltb, eqb}
+use lib.ListN.{length}
+use Rattle.rules.specs.Lists.{All}
 use Rattle.rules.specs.RoomAndSoundLedger.{Ledger, Sound, fresh}
-use Rattle.rules.specs.AnswerNumbers.{Lent, sound}
+use Rattle.rules.specs.AnswerNumbers.{BadFrame, replyOf, Lent, sound, answered}
 use Rattle.rules.specs.SnapshotsMigrationCertificates.{snapshotOf, tooShortFor}
-use Rattle.rules.specs.Frames.{longestSnapshot, operationOfLine, answerOr23, answerToLine, answerLine, lineFeed, answersToLines}
-use Rattle.rules.proofs.Tests.{by-option}
+use Rattle.rules.specs.Frames.{longestSnapshot, characterOf, lineOfBytes, operationOfLine, answerOr23, answerToLine, answerLine, replyBytes, lineFeed, onto, pieces, counted, linesOf, answersToLines}
+use Rattle.rules.proofs.Tests.{by-test, by-bool, by-option}
 use Rattle.rules.proofs.SnapshotSoundness.{LentSound, answer-sound, fresh-sound}
 use Rattle.rules.proofs.OwnSnapshot.{rows-length, own-names-short}
 use Rattle.rules.proofs.SnapshotBytes.{never-too-short}
@@ -40,3 +44,61 @@ answers-append l (line ∷ before) later = rw (answers-append (answerToLine l li
 
 pub own-snapshot-has-room : (L : Ledger) → Sound L → tooShortFor longestSnapshot (snapshotOf L) ≡ false
 own-snapshot-has-room L s = never-too-short (snapshotOf L) (omega (arith, rows-length (L .places), s .names-fit, s .names-in-range .1)) (own-names-short (L .places) (s .are-names))
+
+-- "a longer one gets one 23"
+pub too-long-line : (l : Lent) (line : List ℕ) → 29238 < length line → answerToLine l line ≡ answered (replyOf BadFrame) l
+unfolding answerToLine operationOfLine
+too-long-line l line h = rw (lt-ltb 29238 (length line) h)
+
+-- ── one answer line each ───────────────────────────────────────────────────────────────────────
+
+abbrev NotLineFeed : ℕ → Type 0
+NotLineFeed c = lineFeed < c
+
+character-after-feed : (d : ℕ) → NotLineFeed (characterOf d)
+character-after-feed d = by-test NotLineFeed (ltb d 10) (λ _. omega arith) (λ _. omega arith)
+
+line-has-no-feed : (bs : List ℕ) → All NotLineFeed (lineOfBytes bs)
+unfolding lineOfBytes
+line-has-no-feed [] = tt
+line-has-no-feed (b ∷ bs) = (character-after-feed (b / 16), (character-after-feed (b % 16), line-has-no-feed bs))
+
+-- a line with its line feed in front of other text is the first of the lines
+first-piece : (line rest : List ℕ) → All NotLineFeed line → pieces (line ++ lineFeed ∷ rest) ≡ line ∷ pieces rest
+unfolding pieces
+first-piece [] rest h = refl
+first-piece (c ∷ line) rest (h, k) = rw (ne-eqb c lineFeed (omega arith), first-piece line rest k)
+
+-- there is always a piece, so a line before it counts
+record SomePiece (lines : List (List ℕ)) : Type 0 where
+  head : List ℕ
+  others : List (List ℕ)
+  are : lines ≡ head ∷ others
+
+some-piece : (text : List ℕ) → SomePiece (pieces text)
+unfolding pieces
+some-piece [] = record { head = []; others = []; are = refl }
+some-piece (c ∷ text) =
+    let p = some-piece text in
+    by-test SomePiece (eqb c lineFeed) (λ _. record { head = []; others = pieces text; are = refl }) (λ _. record { head = c ∷ p .head; others = p .others; are = rw (p .are) })
+
+counted-more : (line text : List ℕ) → counted (line ∷ pieces text) ≡ line ∷ counted (pieces text)
+unfolding counted
+counted-more line text = let p = some-piece text in rw (p .are) (go line (p .head) (p .others))
+  where
+    go : (line next : List ℕ) (lines : List (List ℕ)) → counted (line ∷ next ∷ lines) ≡ line ∷ counted (next ∷ lines)
+    go [] next lines = refl
+    go (c ∷ line) next lines = refl
+
+abbrev answerLines : Lent → List (List ℕ) → List (List ℕ)
+answerLines l [] = []
+answerLines l (line ∷ lines) = answerLine (answerToLine l line .reply) ∷ answerLines (answerToLine l line .lent) lines
+
+pub one-answer-line-each : (l : Lent) (lines : List (List ℕ)) → linesOf (answersToLines l lines) ≡ answerLines l lines
+unfolding linesOf answersToLines
+one-answer-line-each l [] = unfold counted pieces in refl
+one-answer-line-each l (line ∷ lines) =
+    let answer = answerLine (answerToLine l line .reply) in
+    let rest = answersToLines (answerToLine l line .lent) lines in
+    let free : All NotLineFeed answer = unfold answerLine in line-has-no-feed (replyBytes (answerToLine l line .reply)) in
+    ap counted (first-piece answer rest free) ∙ counted-more answer rest ∙ ap (λ further. answer ∷ further) (one-answer-line-each (answerToLine l line .lent) lines)

@@ -2,14 +2,14 @@
 use mathlib.Core.Path.{_≡_, refl}
 use mathlib.Core.Bool.{true, false}
 use mathlib.Core.List.{List, [], _∷_, _++_, map, flatMap}
-use Prim.Native.Nat.{ℕ, _+_, _^_}
+use Prim.Native.Nat.{ℕ, _+_, _^_, Ordering·lt, Ordering·gt}
 use Prim.Native.String.{String}
 use lib.IntN.{ℤ, pos, negsuc}
 use lib.ListN.{replicate}
 use Rattle.rules.specs.Lists.{first, any, keep, sum}
 use Rattle.rules.specs.RoomAndSoundLedger.{M, Name, order, same, holdsPlace, seatIn, committedTotal, fresh}
-use Rattle.rules.specs.AnswerNumbers.{Amount, Version, Count, YesOrNo, SnapshotBytes, Reply, NegativeAmount, InvalidAmount, MissingReservation, ActiveReservations, DuplicateTenant, GhostReservation, NegativeLedgerField, ConservationViolation, AggregateOverflow, AlreadyRecoveryAware, InvalidAllocatorFence, LegacySnapshotRequiresMigration, NameTooLong, NamesFull, ReservationsFull, done, replyOf, Lent, sound, unsound, onLent}
-use Rattle.rules.specs.AccountRules.{ensureRule, topUpRule, limitRule, reserveChecks, reserveRule, commitRule, commitOfNone, releaseRule, readRule, readReservedRule, put, freed, seated, booked, ended, perform, settle, AccountOperation, ensure, topUp, limit, reserve, commit, release, readRemaining, readReserved, onName, onBooking, operate, doneWith}
+use Rattle.rules.specs.AnswerNumbers.{Amount, Version, Count, YesOrNo, SnapshotBytes, Reply, NegativeAmount, InvalidAmount, MissingReservation, ActiveReservations, DuplicateTenant, GhostReservation, NegativeLedgerField, ConservationViolation, AggregateOverflow, AlreadyRecoveryAware, InvalidAllocatorFence, LegacySnapshotRequiresMigration, NameTooLong, NamesFull, ReservationsFull, UnsoundLedger, done, replyOf, Lent, sound, unsound, answered, onLent}
+use Rattle.rules.specs.AccountRules.{ensureRule, topUpRule, limitRule, reserveChecks, reserveRule, commitRule, commitOfNone, releaseRule, readRule, readReservedRule, put, freed, seated, booked, ended, perform, settle, AccountOperation, ensure, topUp, limit, reserve, commit, release, readRemaining, readReserved, onName, onBooking, operate, doneWith, LedgerRead, readCommittedTotal, readAccounts, readLive, readLastVersion, readCommittedSince, readLedger}
 use Rattle.rules.specs.SnapshotsMigrationCertificates.{Row, Snapshot, bytesOf, numberFrom, rowBytes, snapshotBytes, readPart, readNumber, readAmount, readName, readRow, readRows, readCount, readSnapshot, hasLongName, accountRows, tagged, takingSnapshot, snapshot, _gives_else_, andThen, rowConservation, conservation, rowValidation, rowsValidation, validation, restoreVersion, recoveryVersion, restoredPlaces, restoreRefusal, orElse, restore, recoveryRestore, replyOr, migrate, status, exactTotal, certificate, certificateOfSnapshot, certificateOfLedger, conservationProof}
 use Rattle.rules.specs.Frames.{Operation, onAccount, takeSnapshot, certifyLedger, proveConservation, restoreFrom, recoverFrom, judge, migrateTo, certify, bytesOfLine, codes, readOperation, operationOf, longestSnapshot, answer, replyBytes, lineOfBytes, answerLine, operationOfLine, answerToLine}
 use Rattle.rules.specs.MarkedCases.{charactersOf, Q1, Case, case, with100, granted, answersTo, ran}
@@ -101,6 +101,54 @@ furtherCases =
 further-cases : map ran furtherCases ≡ furtherCases
 unfolding furtherCases first any keep sum M order same holdsPlace seatIn committedTotal fresh onLent ensureRule topUpRule limitRule reserveChecks reserveRule commitRule commitOfNone releaseRule readRule readReservedRule put freed seated booked ended perform settle onName onBooking operate bytesOf rowBytes flatMap snapshotBytes hasLongName accountRows takingSnapshot snapshot _gives_else_ andThen rowConservation conservation rowValidation rowsValidation validation restoreVersion recoveryVersion restoredPlaces restoreRefusal orElse restore recoveryRestore replyOr migrate status exactTotal certificate certificateOfSnapshot certificateOfLedger conservationProof longestSnapshot answer charactersOf Q1 answersTo ran
 further-cases = refl
+
+-- ── reads over the whole ledger ────────────────────────────────────────────────────────────────
+
+record ReadCase : Type 0 where
+  operations : List Operation
+  read : LedgerRead
+  answer : Reply
+
+-- two accounts, a limit alone, a live booking, 8 committed before a snapshot
+abbrev desk : LedgerRead → Reply → ReadCase
+desk read answer = record {
+  operations = with100 (limit Q2 (pos 5) ∷ ensure (charactersOf "Q3") (pos M) ∷ reserve Q1 (pos 10) ∷ commit 1 (pos 8) ∷ reserve Q1 (pos 1) ∷ []) ++ takeSnapshot ∷ [];
+  read = read;
+  answer = answer;
+}
+
+readCases : List ReadCase
+readCases =
+    desk readCommittedTotal (doneWith (pos 8 ∷ []))
+    ∷ desk readAccounts (done (Count 2 ∷ []))
+    ∷ desk readLive (done (Count 1 ∷ []))
+    ∷ desk readLastVersion (done (Version (tagged 4) ∷ []))
+    ∷ desk readCommittedSince (doneWith (pos 8 ∷ []))
+    -- a committed total above M: 15, and since is M less the baseline, which a restore set to M
+    ∷ record { operations = restoring overfull ∷ []; read = readCommittedTotal; answer = replyOf AggregateOverflow }
+    ∷ record { operations = restoring overfull ∷ []; read = readCommittedSince; answer = doneWith (pos 0 ∷ []) }
+    ∷ []
+  where
+    overfull : List Row
+    overfull = row Q1 (pos M) (pos 0) (pos 0) (pos M) ∷ row Q2 (pos 1) (pos 0) (pos 0) (pos 1) ∷ []
+
+readOf : Lent → LedgerRead → Reply
+readOf unsound read = replyOf UnsoundLedger
+readOf (sound L) read = readLedger L read
+
+readAnswered : ReadCase → ReadCase
+readAnswered c = record { operations = c .operations; read = c .read; answer = readOf (answersTo (answered (done []) (sound (fresh 256 1024))) (c .operations) .lent) (c .read) }
+
+read-cases : map readAnswered readCases ≡ readCases
+unfolding readCases readAnswered readOf readLedger first any keep sum M order same holdsPlace seatIn committedTotal fresh onLent ensureRule limitRule reserveChecks reserveRule commitRule put freed seated booked ended perform settle onName onBooking operate bytesOf rowBytes flatMap snapshotBytes hasLongName accountRows takingSnapshot snapshot _gives_else_ andThen rowConservation conservation rowValidation rowsValidation validation restoreVersion restoredPlaces restoreRefusal orElse restore longestSnapshot answer charactersOf Q1 answersTo
+read-cases = refl
+
+-- ── names ──────────────────────────────────────────────────────────────────────────────────────
+
+-- by bytes, a prefix first
+name-cases : (order [] Q1 ≡ Ordering·lt) × (order Q1 Q2 ≡ Ordering·lt) × (order (charactersOf "Q") Q1 ≡ Ordering·lt) × (order (charactersOf "Q10") Q2 ≡ Ordering·lt) × (order (255 ∷ []) (charactersOf "zz") ≡ Ordering·gt)
+unfolding order charactersOf Q1
+name-cases = (refl, refl, refl, refl, refl)
 
 -- ── lines ──────────────────────────────────────────────────────────────────────────────────────
 
