@@ -12,8 +12,8 @@ use Rattle.rules.specs.Lists.{All}
 use Rattle.rules.specs.RoomAndSoundLedger.{Ledger, Sound, fresh}
 use Rattle.rules.specs.AnswerNumbers.{BadFrame, replyOf, Lent, sound, answered}
 use Rattle.rules.specs.SnapshotsMigrationCertificates.{snapshotOf, tooShortFor}
-use Rattle.rules.specs.Frames.{longestSnapshot, characterOf, lineOfBytes, operationOfLine, answerOr23, answerToLine, answerLine, replyBytes, lineFeed, onto, pieces, counted, linesOf, answersToLines}
-use Rattle.rules.proofs.Tests.{by-test, by-bool, by-option}
+use Rattle.rules.specs.Frames.{longestSnapshot, characterOf, lineOfBytes, operationOfLine, answerOr23, answerToLine, answerLine, replyBytes, lineFeed, pieces, counted, linesOf, answersToLines}
+use Rattle.rules.proofs.Tests.{by-test, by-option}
 use Rattle.rules.proofs.SnapshotSoundness.{LentSound, answer-sound, fresh-sound}
 use Rattle.rules.proofs.OwnSnapshot.{rows-length, own-names-short}
 use Rattle.rules.proofs.SnapshotBytes.{never-too-short}

@@ -17,3 +17,15 @@ pub mod FrameBytes
 pub mod EveryLine
 pub mod MarkedCases
 pub mod FurtherCases
+pub mod Keys
+pub mod ByAirline
+pub mod SameTables
+pub mod Notes
+pub mod Plans
+pub mod Stages
+pub mod OwnParts
+pub mod OwnRuns
+pub mod Counterparts
+pub mod OrderBetweenAirlines
+pub mod OtherSeats
+pub mod OrderExample

@@ -5,4 +5,5 @@ pub mod AccountRules
 pub mod SnapshotsMigrationCertificates
 pub mod Frames
 pub mod Domain
+pub mod OrderBetweenAirlines
 pub mod MarkedCases
