@@ -10,11 +10,11 @@ use lib.Dec.{ltb, eqb}
 use lib.ListN.{length}
 use Rattle.rules.specs.Lists.{All}
 use Rattle.rules.specs.RoomAndSoundLedger.{Ledger, Sound, fresh}
-use Rattle.rules.specs.AnswerNumbers.{BadFrame, replyOf, Lent, sound, answered}
+use Rattle.rules.specs.AnswerNumbers.{BadFrame, replyOf, Lent, sound, LentSound, answered}
 use Rattle.rules.specs.SnapshotsMigrationCertificates.{snapshotOf, tooShortFor}
 use Rattle.rules.specs.Frames.{longestSnapshot, characterOf, lineOfBytes, operationOfLine, answerOr23, answerToLine, answerLine, replyBytes, lineFeed, pieces, counted, linesOf, answersToLines}
 use Rattle.rules.proofs.Tests.{by-test, by-option}
-use Rattle.rules.proofs.SnapshotSoundness.{LentSound, answer-sound, fresh-sound}
+use Rattle.rules.proofs.SnapshotSoundness.{answer-sound, fresh-sound}
 use Rattle.rules.proofs.OwnSnapshot.{rows-length, own-names-short}
 use Rattle.rules.proofs.SnapshotBytes.{never-too-short}
 use Rattle.rules.proofs.FrameBytes.{line-fits}

@@ -1,17 +1,18 @@
 -- Cases beyond the marked ones, by computation: each answer number that those leave out, the easy slips, and damaged lines.
 use mathlib.Core.Path.{_≡_, refl}
 use mathlib.Core.Bool.{true, false}
+use mathlib.Core.Option.{none, some}
 use mathlib.Core.List.{List, [], _∷_, _++_, map, flatMap}
 use Prim.Native.Nat.{ℕ, _+_, _^_, Ordering·lt, Ordering·gt}
 use Prim.Native.String.{String}
 use lib.IntN.{ℤ, pos, negsuc}
 use lib.ListN.{replicate}
 use Rattle.rules.specs.Lists.{first, any, keep, sum}
-use Rattle.rules.specs.RoomAndSoundLedger.{M, Name, order, same, holdsPlace, seatIn, committedTotal, fresh}
-use Rattle.rules.specs.AnswerNumbers.{Amount, Version, Count, YesOrNo, SnapshotBytes, Reply, NegativeAmount, InvalidAmount, MissingReservation, ActiveReservations, DuplicateTenant, GhostReservation, NegativeLedgerField, ConservationViolation, AggregateOverflow, AlreadyRecoveryAware, InvalidAllocatorFence, LegacySnapshotRequiresMigration, NameTooLong, NamesFull, ReservationsFull, UnsoundLedger, done, replyOf, Lent, sound, unsound, answered, onLent}
-use Rattle.rules.specs.AccountRules.{ensureRule, topUpRule, limitRule, reserveChecks, reserveRule, commitRule, commitOfNone, releaseRule, readRule, readReservedRule, put, freed, seated, booked, ended, perform, settle, AccountOperation, ensure, topUp, limit, reserve, commit, release, readRemaining, readReserved, onName, onBooking, operate, doneWith, LedgerRead, readCommittedTotal, readAccounts, readLive, readLastVersion, readCommittedSince, readLedger}
+use Rattle.rules.specs.RoomAndSoundLedger.{M, Name, order, same, holdsPlace, seatIn, committedTotal, fresh, made}
+use Rattle.rules.specs.AnswerNumbers.{Amount, Version, Count, YesOrNo, SnapshotBytes, Reply, NegativeAmount, InvalidAmount, MissingReservation, ActiveReservations, DuplicateTenant, GhostReservation, NegativeLedgerField, ConservationViolation, AggregateOverflow, AlreadyRecoveryAware, InvalidAllocatorFence, LegacySnapshotRequiresMigration, NameTooLong, NamesFull, ReservationsFull, UnsoundLedger, done, replyOf, Lent, sound, unsound, answered, onLent, MissingTenant, makingReply}
+use Rattle.rules.specs.AccountRules.{ensureRule, topUpRule, limitRule, reserveChecks, reserveRule, commitRule, commitOfNone, releaseRule, readRule, readReservedRule, put, freed, seated, booked, ended, perform, settle, AccountOperation, ensure, topUp, limit, reserve, commit, release, readRemaining, readReserved, onName, onBooking, operate, doneWith, LedgerRead, readCommittedTotal, readAccounts, readLive, readLastVersion, readCommittedSince, readLedger, readLent}
 use Rattle.rules.specs.SnapshotsMigrationCertificates.{Row, Snapshot, bytesOf, numberFrom, rowBytes, snapshotBytes, readPart, readNumber, readAmount, readName, readRow, readRows, readCount, readSnapshot, hasLongName, accountRows, tagged, takingSnapshot, snapshot, _gives_else_, andThen, rowConservation, conservation, rowValidation, rowsValidation, validation, restoreVersion, recoveryVersion, restoredPlaces, restoreRefusal, orElse, restore, recoveryRestore, replyOr, migrate, status, exactTotal, certificate, certificateOfSnapshot, certificateOfLedger, conservationProof}
-use Rattle.rules.specs.Frames.{Operation, onAccount, takeSnapshot, certifyLedger, proveConservation, restoreFrom, recoverFrom, judge, migrateTo, certify, bytesOfLine, codes, readOperation, operationOf, longestSnapshot, answer, replyBytes, lineOfBytes, answerLine, operationOfLine, answerToLine}
+use Rattle.rules.specs.Frames.{Operation, onAccount, takeSnapshot, certifyLedger, proveConservation, restoreFrom, recoverFrom, judge, migrateTo, certify, bytesOfLine, codes, readOperation, operationOf, longestSnapshot, answer, replyBytes, lineOfBytes, answerLine, operationOfLine, answerToLine, pieces, counted, linesOf, answersToLines, house}
 use Rattle.rules.specs.MarkedCases.{charactersOf, Q1, Case, case, with100, granted, answersTo, ran}
 
 abbrev Q2 : Name
@@ -45,6 +46,8 @@ furtherCases =
     ∷ case (with100 (limit Q1 (negsuc 0) ∷ [])) (replyOf (NegativeAmount (negsuc 0))) 1
     ∷ case (with100 (topUp Q1 (pos 0) ∷ [])) (replyOf InvalidAmount) 1
     ∷ case (with100 (commit 9 (negsuc 0) ∷ [])) (replyOf InvalidAmount) 1
+    ∷ case (with100 (topUp Q2 (pos 1) ∷ [])) (replyOf MissingTenant) 1
+    ∷ case (with100 (readRemaining Q2 ∷ [])) (replyOf MissingTenant) 1
     ∷ case (with100 (reserve Q1 (pos 10) ∷ release 1 ∷ release 1 ∷ [])) (replyOf MissingReservation) 2
     -- a release gives the amount back; an existing account is left as it is
     ∷ case (with100 (reserve Q1 (pos 10) ∷ release 1 ∷ [])) (doneWith (pos 100 ∷ pos 10 ∷ [])) 2
@@ -87,13 +90,23 @@ furtherCases =
     ∷ case (recoverFrom (snapshotWith 7 0 []) ∷ []) (replyOf LegacySnapshotRequiresMigration) 1
     ∷ case (recoverFrom (snapshotWith (2 ^ 63) 0 []) ∷ []) (replyOf (InvalidAllocatorFence 0)) 1
     ∷ case (recoverFrom (snapshotWith (tagged 9) 0 []) ∷ []) (done []) 9
+    ∷ case (migrateTo 5 (snapshotWith 9 0 (row Q1 (pos 10) (pos 7) (pos 0) (pos 3) ∷ [])) ∷ []) (done (SnapshotBytes (snapshotBytes (snapshotWith (tagged 5) 0 (row Q1 (pos 10) (pos 7) (pos 0) (pos 3) ∷ []))) ∷ [])) 1
+    -- migration in its order: 19, 16, 17, validation
+    ∷ case (migrateTo 0 (snapshotWith (2 ^ 63) 0 (row (replicate 25 65) (pos 0) (pos 0) (pos 0) (pos 0) ∷ [])) ∷ []) (replyOf NameTooLong) 1
+    ∷ case (migrateTo 0 (snapshotWith (2 ^ 63) 0 []) ∷ []) (replyOf AlreadyRecoveryAware) 1
+    ∷ case (migrateTo 0 (snapshotWith 9 1 []) ∷ []) (replyOf (InvalidAllocatorFence 0)) 1
+    ∷ case (migrateTo 5 (snapshotWith 9 1 []) ∷ []) (replyOf (ActiveReservations 1)) 1
     -- 15 from a conservation proof has moved next id
     ∷ case (map onAccount (ensure Q1 (pos M) ∷ ensure Q2 (pos 1) ∷ []) ++ proveConservation ∷ []) (replyOf AggregateOverflow) 2
     ∷ case (with100 [] ++ proveConservation ∷ []) (done (Version (tagged 2) ∷ Count 1 ∷ Count 0 ∷ Amount (pos 100) ∷ Amount (pos 0) ∷ YesOrNo true ∷ [])) 2
     -- the baseline moves with a certificate, and not with the next one
     ∷ case (with100 (reserve Q1 (pos 10) ∷ commit 1 (pos 8) ∷ []) ++ certifyLedger ∷ []) (certificateAfter (tagged 3) 8 8) 3
     ∷ case (with100 (reserve Q1 (pos 10) ∷ commit 1 (pos 8) ∷ []) ++ certifyLedger ∷ certifyLedger ∷ []) (certificateAfter (tagged 4) 8 0) 4
-    -- totals that do not fit
+    -- a certificate of a row that is not balanced; totals that do not fit, the one or the other
+    ∷ case (certify (pos 6) (snapshotWith 1 2 (row Q1 (pos 10) (pos 7) (pos 0) (pos 1) ∷ [])) ∷ [])
+    (done (Version 1 ∷ Count 1 ∷ Count 2 ∷ YesOrNo false ∷ Amount (pos 10) ∷ Amount (pos 1) ∷ YesOrNo true ∷ Amount (pos 6) ∷ [])) 1
+    ∷ case (certify (pos 6) (snapshotWith 1 2 (row Q1 (pos M) (pos 0) (pos 0) (pos M) ∷ row Q2 (pos 1) (pos 1) (pos 0) (pos 0) ∷ [])) ∷ [])
+    (done (Version 1 ∷ Count 2 ∷ Count 2 ∷ YesOrNo false ∷ Amount (pos 0) ∷ Amount (pos 0) ∷ YesOrNo false ∷ Amount (pos 6) ∷ [])) 1
     ∷ case (certify (pos 6) (snapshotWith 1 2 (row Q1 (pos M) (pos M) (pos 0) (pos 0) ∷ row Q2 (pos 1) (pos 1) (pos 0) (pos 0) ∷ [])) ∷ [])
     (done (Version 1 ∷ Count 2 ∷ Count 2 ∷ YesOrNo false ∷ Amount (pos 0) ∷ Amount (pos 0) ∷ YesOrNo false ∷ Amount (pos 6) ∷ [])) 1
     ∷ []
@@ -132,16 +145,23 @@ readCases =
     overfull : List Row
     overfull = row Q1 (pos M) (pos 0) (pos 0) (pos M) ∷ row Q2 (pos 1) (pos 0) (pos 0) (pos 1) ∷ []
 
-readOf : Lent → LedgerRead → Reply
-readOf unsound read = replyOf UnsoundLedger
-readOf (sound L) read = readLedger L read
-
 readAnswered : ReadCase → ReadCase
-readAnswered c = record { operations = c .operations; read = c .read; answer = readOf (answersTo (answered (done []) (sound (fresh 256 1024))) (c .operations) .lent) (c .read) }
+readAnswered c = record { operations = c .operations; read = c .read; answer = readLent (answersTo (answered (done []) (sound (fresh 256 1024))) (c .operations) .lent) (c .read) }
 
 read-cases : map readAnswered readCases ≡ readCases
-unfolding readCases readAnswered readOf readLedger first any keep sum M order same holdsPlace seatIn committedTotal fresh onLent ensureRule limitRule reserveChecks reserveRule commitRule put freed seated booked ended perform settle onName onBooking operate bytesOf rowBytes flatMap snapshotBytes hasLongName accountRows takingSnapshot snapshot _gives_else_ andThen rowConservation conservation rowValidation rowsValidation validation restoreVersion restoredPlaces restoreRefusal orElse restore longestSnapshot answer charactersOf Q1 answersTo
+unfolding readCases readAnswered readLent readLedger first any keep sum M order same holdsPlace seatIn committedTotal fresh onLent ensureRule limitRule reserveChecks reserveRule commitRule put freed seated booked ended perform settle onName onBooking operate bytesOf rowBytes flatMap snapshotBytes hasLongName accountRows takingSnapshot snapshot _gives_else_ andThen rowConservation conservation rowValidation rowsValidation validation restoreVersion restoredPlaces restoreRefusal orElse restore longestSnapshot answer charactersOf Q1 answersTo
 read-cases = refl
+
+-- ── making a ledger, and output room ───────────────────────────────────────────────────────────
+
+made-cases : (made 0 1 ≡ none) × (made 1 1 ≡ some (fresh 1 1)) × (made 256 1024 ≡ some (fresh 256 1024)) × (made 257 1024 ≡ none) × (made 256 1025 ≡ none) × (made 256 0 ≡ none) × (makingReply (made 257 1) .number ≡ 24)
+unfolding made
+made-cases = (refl, refl, refl, refl, refl, refl, refl)
+
+-- 22 last: after 9, and after validation
+output-cases : (snapshot 17 (fresh 1 1) .reply .number ≡ 22) × (snapshot 18 (fresh 1 1) .reply .number ≡ 0) × (migrate 17 5 (snapshotWith 9 0 []) .number ≡ 22) × (migrate 18 5 (snapshotWith 9 0 []) .number ≡ 0) × (migrate 17 5 (snapshotWith 9 1 []) .number ≡ 10)
+unfolding fresh M bytesOf flatMap snapshotBytes hasLongName any accountRows takingSnapshot snapshot _gives_else_ andThen rowsValidation conservation validation replyOr migrate
+output-cases = (refl, refl, refl, refl, refl)
 
 -- ── names ──────────────────────────────────────────────────────────────────────────────────────
 
@@ -187,11 +207,26 @@ lineCases =
     ∷ unsoundly "07" "18"
     ∷ unsoundly "0119414141414141414141414141414141414141414141414141410000000000000001" "18"
     ∷ unsoundly "0e000000000000000000000000000000000000" "00"
+    ∷ unsoundly "0a0000000000000000000000000000000000000000000000000000" "110000000000000000"
+    ∷ unsoundly "0c0000000000000006000000000000000000000000000000000000" "000000000000000000000000000000000000000000000000000100000000000000000000000000000000010000000000000006"
     ∷ []
 
 answeredLine : LineCase → LineCase
 answeredLine c = record { lent = c .lent; line = c .line; answerLine = answerLine (answerToLine (c .lent) (c .line) .reply) }
 
 line-cases : map answeredLine lineCases ≡ lineCases
-unfolding lineCases answeredLine first any keep M order same holdsPlace seatIn fresh onLent ensureRule perform onName operate bytesOf numberFrom flatMap readPart readNumber readAmount readName readRow readRows readCount readSnapshot hasLongName takingSnapshot snapshot _gives_else_ conservation replyOr status bytesOfLine codes readOperation operationOf answer replyBytes lineOfBytes answerLine operationOfLine answerToLine charactersOf
+unfolding lineCases answeredLine first any keep M order same holdsPlace seatIn fresh onLent ensureRule perform onName operate bytesOf numberFrom flatMap readPart readNumber readAmount readName readRow readRows readCount readSnapshot hasLongName takingSnapshot snapshot _gives_else_ conservation replyOr status migrate certificate certificateOfSnapshot exactTotal bytesOfLine codes readOperation operationOf answer replyBytes lineOfBytes answerLine operationOfLine answerToLine charactersOf
 line-cases = refl
+
+-- ── a desk's lines ─────────────────────────────────────────────────────────────────────────────
+
+-- each operation of the table, the answers that carry a name, a field, a count or a fence, and a last line without a line feed
+deskInput : List ℕ
+deskInput = charactersOf "0102513100000000000003e8\n0202513100000000000000c8\n030251310000000000000032\n040251310000000000000032\n060000000000000001\n0b\n0d\n08800000000000000700000000000000010000\n0880000000000000070000000000000000000202513100000000000000000000000000000000000000000000000000000000000000000251310000000000000000000000000000000000000000000000000000000000000000\n088000000000000007000000000000000000010251310000000000000005000000000000000000000000000000050000000000000000\n08800000000000000700000000000000000001025131000000000000000000000000000000000000000000000000fffffffffffffffc\n08000000000000000500000000000000000000\n08800000000000000700000000000000000001025131000000000000000a000000000000000700000000000000000000000000000001\n08800000000000000700000000000000000001025131000000000000000a000000000000000700000000000000000000000000000003\n09000000000000000700000000000000000000\n09800000000000000000000000000000000000\n09800000000000000900000000000000000001025131000000000000000a000000000000000700000000000000000000000000000003\n0a0000000000000005000000000000000900000000000000000001025131000000000000000a000000000000000700000000000000000000000000000003\n0a0000000000000000000000000000000900000000000000000000\n0c0000000000000006000000000000000100000000000000020001025131000000000000000a000000000000000700000000000000000000000000000001\n0e000000000000000000000000000000000001025131000000000000000a000000000000000700000000000000000000000000000001\n0500000000000000000000000000000000\n05ffffffffffffffffffffffffffffffff\n07"
+
+deskOutput : List ℕ
+deskOutput = charactersOf "00\n0000000000000000c800000000000004b000000000000004b0\n00\n00000000000000047e0000000000000001\n0000000000000004b00000000000000032\n008000000000000003000000000000000100000000000000000100000000000004b00000000000000000010000000000000000\n0080000000000000040000000000000001000000000000000000000000000004b0000000000000000001\n0a0000000000000001\n0b025131\n0c0251310000000000000005\n0d02513103fffffffffffffffc\n0d00040000000000000005\n0e025131fffffffffffffffe\n00\n12\n110000000000000000\n00\n00800000000000000500000000000000000001025131000000000000000a000000000000000700000000000000000000000000000003\n110000000000000000\n0000000000000000010000000000000001000000000000000200000000000000000a0000000000000001010000000000000006\n0e025131fffffffffffffffe\n07\n02\n00800000000000000a00000000000000000001025131000000000000000a000000000000000700000000000000000000000000000003\n"
+
+desk-lines : house deskInput ≡ deskOutput
+unfolding deskInput deskOutput first any keep sum M order same holdsPlace seatIn committedTotal fresh onLent ensureRule topUpRule limitRule reserveChecks reserveRule commitOfNone releaseRule put freed seated booked ended perform settle onName onBooking operate bytesOf numberFrom rowBytes flatMap snapshotBytes readPart readNumber readAmount readName readRow readRows readCount readSnapshot hasLongName accountRows takingSnapshot snapshot _gives_else_ andThen rowConservation conservation rowValidation rowsValidation validation restoreVersion recoveryVersion restoredPlaces restoreRefusal orElse restore recoveryRestore replyOr migrate status exactTotal certificate certificateOfSnapshot certificateOfLedger conservationProof bytesOfLine codes readOperation operationOf longestSnapshot answer replyBytes lineOfBytes answerLine operationOfLine answerToLine pieces counted linesOf answersToLines house charactersOf
+desk-lines = refl

@@ -12,7 +12,7 @@ use lib.IntN.{pos}
 use lib.ListN.{length}
 use Rattle.rules.specs.Lists.{sum, All, Pairwise}
 use Rattle.rules.specs.RoomAndSoundLedger.{M, IsName, Account, seat, Place, place, Ledger, holdsPlace, reservedFor, committedOf, committedTotal, InRange, Before, hasTag, fenceOf, isVacant, Sound, fresh}
-use Rattle.rules.specs.AnswerNumbers.{Refusal, Outcome, Lent, sound, unsound, onLent}
+use Rattle.rules.specs.AnswerNumbers.{Refusal, Outcome, Lent, sound, unsound, LentSound, onLent}
 use Rattle.rules.specs.AccountRules.{account, natural, isTooLong, nextIdIsM}
 use Rattle.rules.specs.SnapshotsMigrationCertificates.{Row, Snapshot, rowAt, accountRows, tagged, afterSnapshot, snapshotOf, takingSnapshot, tooShortFor, snapshot, fits64, exactTotal, initialTotal, committedRowsTotal, totalsFit, restoredSeat, restoredPlaces, restored, orElse, restoreVersion, recoveryVersion, restoreRefusal, restore, recoveryRestore, certificateOfLedger, conservationProof}
 use Rattle.rules.specs.Frames.{Operation, onAccount, takeSnapshot, certifyLedger, proveConservation, restoreFrom, recoverFrom, judge, migrateTo, certify, longestSnapshot, answer}
@@ -157,11 +157,6 @@ module _ (L : Ledger) (known : SoundByName L) (s : Snapshot) (fits : SnapshotFit
       (λ _ e. let passed = restore-passes ofVersion (L .T) s e in restored-sound ofVersion (version (passed .version)) passed) (λ x _ e. known) refl
 
 -- ── every operation ────────────────────────────────────────────────────────────────────────────
-
--- a ledger that is lent as sound is
-abbrev pub LentSound : Lent → Type 0
-LentSound (sound L) = Sound L
-LentSound unsound = Unit {0}
 
 answer-keeps : (L : Ledger) → Sound L → (x : Operation) → OperationFits x → LentSound (answer (sound L) x .lent)
 unfolding answer onLent restore recoveryRestore

@@ -10,7 +10,7 @@ use lib.Signed.{ltZ}
 use lib.ListN.{length}
 use Rattle.rules.specs.Lists.{first, keep}
 use Rattle.rules.specs.RoomAndSoundLedger.{M, Name, order, Account, Seat, seat, Place, place, Booking, Ledger, isVacant, isAt, holdsPlace, seatIn, hasAccount, committedTotal}
-use Rattle.rules.specs.AnswerNumbers.{Amount, Identifier, Count, Version, Reply, Refusal, NegativeAmount, InvalidAmount, MissingTenant, OverflowOfReserve, OverflowOfCommit, OverflowOfTopUp, ExposureLimitExceeded, Insufficient, MissingReservation, Overrun, AggregateOverflow, NameTooLong, NamesFull, ReservationsFull, done, replyOf, Outcome, outcome, refused}
+use Rattle.rules.specs.AnswerNumbers.{Amount, Identifier, Count, Version, Reply, Refusal, NegativeAmount, InvalidAmount, MissingTenant, OverflowOfReserve, OverflowOfCommit, OverflowOfTopUp, ExposureLimitExceeded, Insufficient, MissingReservation, Overrun, AggregateOverflow, NameTooLong, NamesFull, ReservationsFull, done, replyOf, Outcome, outcome, refused, UnsoundLedger, Lent, sound, unsound}
 
 -- What a rule decides. `tell`: done, with these amounts, and nothing changes. `write`: done, and the seat is now this one.
 -- `lose`: refused, but an id is drawn. `book`: the id drawn is granted for this cost; carries remaining and the id
@@ -54,7 +54,7 @@ topUpRule (pos (suc n)) (some c) l =
     cond (ltb M initial) (refuse OverflowOfTopUp)
     (write (pos (suc n) ∷ pos initial ∷ pos remaining ∷ []) (seat (account initial remaining (c .reserved) (c .committed)) l))
 
--- "Limit: negative gives 1; 0 removes it, always done; positive sets it"
+-- "Limit: negative gives 1; 0 removes it, always done; positive sets it, 20 as for ensure."
 unfoldable pub limitRule : ℤ → Option Account → ℕ → Move
 limitRule (negsuc n) c l = refuse (NegativeAmount (negsuc n))
 limitRule (pos n) c l = write [] (seat c n)
@@ -232,3 +232,8 @@ readLedger L readAccounts = done (Count (length (keep isAccount (L .places))) �
 readLedger L readLive = done (Count (length (L .bookings)) ∷ [])
 readLedger L readLastVersion = done (Version (L .lastVersion) ∷ [])
 readLedger L readCommittedSince = done (Amount (pos (min (committedTotal (L .places)) M - L .baseline)) ∷ [])
+
+-- 24 of a lent ledger, as everywhere
+unfoldable pub readLent : Lent → LedgerRead → Reply
+readLent unsound read = replyOf UnsoundLedger
+readLent (sound L) read = readLedger L read

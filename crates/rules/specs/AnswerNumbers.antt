@@ -4,7 +4,7 @@ use mathlib.Core.List.{List, [], _∷_}
 use mathlib.Core.Option.{Option, none, some}
 use Prim.Native.Nat.{ℕ}
 use lib.IntN.{ℤ, pos}
-use Rattle.rules.specs.RoomAndSoundLedger.{Name, Ledger}
+use Rattle.rules.specs.RoomAndSoundLedger.{Name, Ledger, Sound}
 
 -- What an answer can carry
 pub data Value : Type 0 where
@@ -25,6 +25,19 @@ reply n vs = record { number = n; carried = vs }
 -- "0 is done."
 abbrev pub done : List Value → Reply
 done vs = reply 0 vs
+
+-- "field byte (1 remaining, 2 initial, 3 committed, 4 version)"
+abbrev pub remainingField : ℕ
+remainingField = 1
+
+abbrev pub initialField : ℕ
+initialField = 2
+
+abbrev pub committedField : ℕ
+committedField = 3
+
+abbrev pub versionField : ℕ
+versionField = 4
 
 -- The paper's refusals by name, each with the numbers that it carries
 pub data Refusal : Type 0 where
@@ -90,10 +103,15 @@ outcome r L = record { reply = r; ledger = L }
 abbrev pub refused : Refusal → Ledger → Outcome
 refused e L = outcome (replyOf e) L
 
--- "Where a ledger is lent": it is sound, with this content, or it is not
+-- "Where a ledger is lent, 24 is given exactly when it isn't sound": what is lent is a sound ledger with this content, or memory that is none
 pub data Lent : Type 0 where
   sound : Ledger → Lent
   unsound : Lent
+
+-- what is lent as sound is; every statement about a lent ledger supposes this
+abbrev pub LentSound : Lent → Type 0
+LentSound (sound L) = Sound L
+LentSound unsound = Unit {0}
 
 pub record Answered : Type 0 where
   pub reply : Reply
@@ -102,7 +120,6 @@ pub record Answered : Type 0 where
 abbrev pub answered : Reply → Lent → Answered
 answered r l = record { reply = r; lent = l }
 
--- "24 is given exactly when it isn't sound"
 unfoldable pub onLent : Lent → (Ledger → Outcome) → Answered
 onLent unsound f = answered (replyOf UnsoundLedger) unsound
 onLent (sound L) f = answered (f L .reply) (sound (f L .ledger))

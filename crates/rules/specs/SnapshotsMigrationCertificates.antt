@@ -9,7 +9,7 @@ use lib.Signed.{ltZ}
 use lib.ListN.{length, take, drop}
 use Rattle.rules.specs.Lists.{any}
 use Rattle.rules.specs.RoomAndSoundLedger.{M, Name, same, Account, Seat, seat, Place, Ledger, committedTotal, hasTag, fenceOf}
-use Rattle.rules.specs.AnswerNumbers.{Amount, Version, Count, YesOrNo, SnapshotBytes, Reply, Refusal, AllocatorExhausted, ActiveReservations, DuplicateTenant, GhostReservation, NegativeLedgerField, ConservationViolation, AggregateOverflow, AlreadyRecoveryAware, InvalidAllocatorFence, LegacySnapshotRequiresMigration, NameTooLong, NamesFull, OutputTooShort, done, replyOf, Outcome, outcome, refused}
+use Rattle.rules.specs.AnswerNumbers.{remainingField, initialField, committedField, versionField, Amount, Version, Count, YesOrNo, SnapshotBytes, Reply, Refusal, AllocatorExhausted, ActiveReservations, DuplicateTenant, GhostReservation, NegativeLedgerField, ConservationViolation, AggregateOverflow, AlreadyRecoveryAware, InvalidAllocatorFence, LegacySnapshotRequiresMigration, NameTooLong, NamesFull, OutputTooShort, done, replyOf, Outcome, outcome, refused, BadFrame, Lent, Answered, answered}
 use Rattle.rules.specs.AccountRules.{account, natural, put, isTooLong}
 
 -- ── snapshot bytes ─────────────────────────────────────────────────────────────────────────────
@@ -139,6 +139,14 @@ whole (some r) = cond (eqb (length (r .rest)) 0) (some (r .value)) none
 unfoldable pub snapshotOfBytes : List ℕ → Option Snapshot
 snapshotOfBytes bs = whole (readSnapshot bs)
 
+-- what is handed snapshot bytes gives 23 before anything else
+abbrev pub onSnapshot : Option Snapshot → Lent → (Snapshot → Answered) → Answered
+onSnapshot none l f = answered (replyOf BadFrame) l
+onSnapshot (some s) l f = f s
+
+unfoldable pub onSnapshotBytes : List ℕ → Lent → (Snapshot → Answered) → Answered
+onSnapshotBytes bs l f = onSnapshot (snapshotOfBytes bs) l f
+
 -- A name of more than 24 bytes in such bytes: 19, on any operation that is handed a snapshot
 unfoldable pub hasLongName : List Row → Bool
 hasLongName = any (λ r. isTooLong (r .name))
@@ -240,9 +248,9 @@ unfoldable pub rowValidation : (seen : List Name) → Row → Option Refusal
 rowValidation seen r =
     any (same (r .name)) seen gives DuplicateTenant (r .name) else
     not (equals (r .reserved) (pos 0)) gives GhostReservation (r .name) (r .reserved) else
-    isNegative (r .remaining) gives NegativeLedgerField (r .name) 1 (r .remaining) else
-    isNegative (r .initial) gives NegativeLedgerField (r .name) 2 (r .initial) else
-    isNegative (r .committed) gives NegativeLedgerField (r .name) 3 (r .committed) else
+    isNegative (r .remaining) gives NegativeLedgerField (r .name) remainingField (r .remaining) else
+    isNegative (r .initial) gives NegativeLedgerField (r .name) initialField (r .initial) else
+    isNegative (r .committed) gives NegativeLedgerField (r .name) committedField (r .committed) else
     passes
 
 unfoldable pub rowsValidation : (seen : List Name) → List Row → Option Refusal
@@ -259,7 +267,7 @@ validation s =
 
 -- "Restore: version without bit 63 or with low bits 0 gives 13, empty name, field 4, value = version or M if larger"
 unfoldable pub restoreVersion : ℕ → Option Refusal
-restoreVersion v = (not (hasTag v) || eqb (fenceOf v) 0) gives NegativeLedgerField [] 4 (pos (min v M)) else passes
+restoreVersion v = (not (hasTag v) || eqb (fenceOf v) 0) gives NegativeLedgerField [] versionField (pos (min v M)) else passes
 
 -- "The recovery form gives 18 without bit 63, then 17 carrying 0, then the same."
 unfoldable pub recoveryVersion : ℕ → Option Refusal
