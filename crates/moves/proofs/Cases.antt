@@ -1,0 +1,225 @@
+-- Each answer of each rule, from plain facts: what the tests of the code leave.
+use mathlib.Core.Path.{_≡_, refl, sym, _∙_, ap, subst}
+use mathlib.Core.Bool.{Bool, true, false, _&&_}
+use mathlib.Core.List.{[], _∷_}
+use mathlib.Core.Option.{Option, none, some}
+use Prim.Native.Nat.{ℕ, zero, suc, _+_, _-_, _^_, _≤_, _<_}
+use native.Mathlib.Omega.{arith}
+use borrow.Author.Tests.{eq-eqb, ne-eqb, lt-ltb, le-ltb, ltb-false}
+use lib.Dec.{ltb, eqb}
+use lib.IntN.{ℤ, pos, negsuc, _-ℤ_}
+use lib.Signed.{ltZ, mag}
+use Rattle.rules.specs.RoomAndSoundLedger.{M, Account, seat, AddsUp}
+use Rattle.rules.specs.AnswerNumbers.{Refusal, NegativeAmount, InvalidAmount, MissingTenant, OverflowOfReserve, OverflowOfCommit, OverflowOfTopUp, ExposureLimitExceeded, Insufficient, Overrun}
+use Rattle.rules.specs.AccountRules.{refuse, tell, write, lose, book, leave, end, account, natural, ensureRule, topUpRule, limitRule, Checked, stopped, passed, reserveChecks, reserveRule, commitRule, releaseRule}
+use Rattle.rules.proofs.Delta.{delta-exceeds, remaining-falls}
+use Rattle.moves.specs.declared.Seat.{Seat}
+use Rattle.moves.specs.Moves.{accountOf, kept, keptSeat, SeatSound}
+
+-- what a callee's answer says of the definition that its contract names
+pub told : {A : Type 0} {r t b : A} → r ≡ t → r ≡ b → t ≡ b
+told e p = sym e ∙ p
+
+-- an amount is a signed 64-bit number, so one that is not negative is at most M
+pub natural-small : (z : ℤ) (n : ℕ) → z ≡ pos n → mag z < 2 ^ 63 → n ≤ M
+unfolding M
+natural-small z n e h = let q : mag z ≡ n = ap mag e in omega arith
+
+-- ── seats ──────────────────────────────────────────────────────────────────────────────────────
+
+-- the account of a seat whose flag says that it has one
+abbrev pub accountIn : Seat → Account
+accountIn s = record { initial = s .initial; remaining = s .remaining; reserved = s .reserved; committed = s .committed }
+
+abbrev pub AmountsAddUp : Seat → Type 0
+AmountsAddUp s = AddsUp (some (accountIn s))
+
+module _ (s : Seat) where
+  pub without-account : s .account ≡ 0 → accountOf s ≡ none
+  without-account e = rw (eq-eqb (s .account) 0 e)
+
+  pub with-account : (s .account ≡ 0 → ⊥) → accountOf s ≡ some (accountIn s)
+  with-account h = rw (ne-eqb (s .account) 0 h)
+
+  pub amounts-add-up : SeatSound s → (s .account ≡ 0 → ⊥) → AmountsAddUp s
+  amounts-add-up sound h = subst AddsUp (with-account h) (sound .adds-up)
+
+-- every seat that a rule writes but a limit's has an account
+pub account-sound : (initial remaining reserved committed limit : ℕ) → remaining + reserved + committed ≡ initial → initial ≤ M → limit ≤ M
+    → SeatSound (record { initial = initial; remaining = remaining; reserved = reserved; committed = committed; limit = limit; account = 1 })
+account-sound initial remaining reserved committed limit e h k = record { form = unfold keptSeat in refl; adds-up = (e, h); limit = k }
+
+abbrev pub limited : ℕ → Seat → Seat
+limited l s = record { initial = s .initial; remaining = s .remaining; reserved = s .reserved; committed = s .committed; limit = l; account = s .account }
+
+-- the one form of a seat says of its limit only what it is
+limited-kept : (c : Option Account) (l k : ℕ) → limited k (kept c l) ≡ kept c k
+limited-kept none l k = refl
+limited-kept (some c) l k = refl
+
+pub limit-sound : (s : Seat) (l : ℕ) → SeatSound s → l ≤ M → SeatSound (limited l s)
+limit-sound s l sound h = record {
+  form = unfold keptSeat in sym (limited-kept (accountOf s) (s .limit) l) ∙ ap (limited l) (sound .form);
+  adds-up = sound .adds-up;
+  limit = h;
+}
+
+-- a positive amount, asked of a seat with an account: where a top-up and a reserve come to their sums
+pub record Asked (s : Seat) (z : ℤ) (n : ℕ) : Type 0 where
+  pub amount : z ≡ pos n
+  pub positive : n ≡ 0 → ⊥
+  pub present : s .account ≡ 0 → ⊥
+
+-- ── ensure ─────────────────────────────────────────────────────────────────────────────────────
+
+pub ensure-negative : (z : ℤ) (c : Option Account) (l : ℕ) → z ≡ negsuc (mag z) → refuse (NegativeAmount z) ≡ ensureRule z c l
+unfolding ensureRule
+ensure-negative z c l e = rw e
+
+module _ (s : Seat) (z : ℤ) (n : ℕ) (amount : z ≡ pos n) where
+  pub ensure-present : (s .account ≡ 0 → ⊥) → tell [] ≡ ensureRule z (accountOf s) (s .limit)
+  unfolding ensureRule
+  ensure-present h = rw (amount, with-account s h)
+
+  pub ensure-opens : s .account ≡ 0 → write [] (seat (account n n 0 0) (s .limit)) ≡ ensureRule z (accountOf s) (s .limit)
+  unfolding ensureRule
+  ensure-opens h = rw (amount, without-account s h)
+
+-- ── top-up ─────────────────────────────────────────────────────────────────────────────────────
+
+pub top-up-negative : (z : ℤ) (c : Option Account) (l : ℕ) → z ≡ negsuc (mag z) → refuse InvalidAmount ≡ topUpRule z c l
+unfolding topUpRule
+top-up-negative z c l e = rw e
+
+pub top-up-zero : (z : ℤ) (c : Option Account) (l n : ℕ) → z ≡ pos n → n ≡ 0 → refuse InvalidAmount ≡ topUpRule z c l
+unfolding topUpRule
+top-up-zero z c l n amount e = rw (amount, e)
+
+module _ (s : Seat) (z : ℤ) where
+  pub top-up-missing : (n : ℕ) → z ≡ pos n → (n ≡ 0 → ⊥) → s .account ≡ 0 → refuse MissingTenant ≡ topUpRule z (accountOf s) (s .limit)
+  unfolding topUpRule
+  top-up-missing zero amount positive h = absurd (positive refl)
+  top-up-missing (suc n) amount positive h = rw (amount, without-account s h)
+
+  pub top-up-overflows : (n : ℕ) → Asked s z n → M < s .initial + n → refuse OverflowOfTopUp ≡ topUpRule z (accountOf s) (s .limit)
+  unfolding topUpRule
+  top-up-overflows zero asked above = absurd (asked .positive refl)
+  top-up-overflows (suc n) asked above = rw (asked .amount, with-account s (asked .present), lt-ltb M (s .initial + suc n) above)
+
+  pub top-up-grows : (n : ℕ) → Asked s z n → (initial : ℕ) → initial ≡ s .initial + n → s .initial + n ≤ M
+      → write (z ∷ pos initial ∷ pos (s .remaining + n) ∷ []) (seat (account initial (s .remaining + n) (s .reserved) (s .committed)) (s .limit)) ≡ topUpRule z (accountOf s) (s .limit)
+  unfolding topUpRule
+  top-up-grows zero asked initial e fits = absurd (asked .positive refl)
+  top-up-grows (suc n) asked initial e fits = rw (asked .amount, with-account s (asked .present), le-ltb M (s .initial + suc n) fits, e)
+
+-- ── limit ──────────────────────────────────────────────────────────────────────────────────────
+
+module _ (z : ℤ) (c : Option Account) (l : ℕ) where
+  pub limit-negative : z ≡ negsuc (mag z) → refuse (NegativeAmount z) ≡ limitRule z c l
+  unfolding limitRule
+  limit-negative e = rw e
+
+  pub limit-changes : (n : ℕ) → z ≡ pos n → write [] (seat c n) ≡ limitRule z c l
+  unfolding limitRule
+  limit-changes n amount = rw amount
+
+-- ── reserve ────────────────────────────────────────────────────────────────────────────────────
+
+pub checks-negative : (z : ℤ) (c : Option Account) (l : ℕ) → z ≡ negsuc (mag z) → reserveChecks z c l ≡ stopped (Insufficient 0 z)
+unfolding reserveChecks
+checks-negative z c l e = rw e
+
+pub checks-zero : (z : ℤ) (c : Option Account) (l n : ℕ) → z ≡ pos n → n ≡ 0 → reserveChecks z c l ≡ stopped (Insufficient 0 z)
+unfolding reserveChecks
+checks-zero z c l n amount e = rw (amount, e)
+
+module _ (s : Seat) (z : ℤ) where
+  pub checks-missing : (n : ℕ) → z ≡ pos n → (n ≡ 0 → ⊥) → s .account ≡ 0 → reserveChecks z (accountOf s) (s .limit) ≡ stopped MissingTenant
+  unfolding reserveChecks
+  checks-missing zero amount positive h = absurd (positive refl)
+  checks-missing (suc n) amount positive h = rw (amount, without-account s h)
+
+  pub checks-overflows : (n : ℕ) → Asked s z n → M < s .reserved + n → reserveChecks z (accountOf s) (s .limit) ≡ stopped (OverflowOfReserve (s .reserved))
+  unfolding reserveChecks
+  checks-overflows zero asked above = absurd (asked .positive refl)
+  checks-overflows (suc n) asked above = rw (asked .amount, with-account s (asked .present), lt-ltb M (s .reserved + suc n) above)
+
+  pub checks-exposed : (n : ℕ) → Asked s z n → (reserved : ℕ) → reserved ≡ s .reserved + n → s .reserved + n ≤ M → (ltb 0 (s .limit) && ltb (s .limit) reserved) ≡ true
+      → reserveChecks z (accountOf s) (s .limit) ≡ stopped (ExposureLimitExceeded (s .reserved) (s .limit))
+  unfolding reserveChecks
+  checks-exposed zero asked reserved e fits exceeds = absurd (asked .positive refl)
+  checks-exposed (suc n) asked reserved e fits exceeds = rw (asked .amount, with-account s (asked .present), le-ltb M (s .reserved + suc n) fits, ← e, exceeds)
+
+  pub checks-pass : (n : ℕ) → Asked s z n → (reserved : ℕ) → reserved ≡ s .reserved + n → s .reserved + n ≤ M → (ltb 0 (s .limit) && ltb (s .limit) reserved) ≡ false
+      → reserveChecks z (accountOf s) (s .limit) ≡ passed (accountIn s) n
+  unfolding reserveChecks
+  checks-pass zero asked reserved e fits within = absurd (asked .positive refl)
+  checks-pass (suc n) asked reserved e fits within = rw (asked .amount, with-account s (asked .present), le-ltb M (s .reserved + suc n) fits, ← e, within)
+
+-- M as the code writes it
+abbrev pub codeM : ℕ
+codeM = 9223372036854775807
+
+-- the checks stop a reserve, or pass it on to the one of the next id
+module _ (k : Checked) (l : ℕ) where
+  pub reserve-stops : (nextIdIsM : Bool) (e : Refusal) → k ≡ stopped e → refuse e ≡ reserveRule nextIdIsM l k
+  unfolding reserveRule
+  reserve-stops nextIdIsM e stops = rw stops
+
+  module _ (c : Account) (n next : ℕ) where
+    pub reserve-ids-used : next ≡ codeM → k ≡ passed c n → refuse (OverflowOfReserve (c .reserved)) ≡ reserveRule (eqb next M) l k
+    unfolding reserveRule
+    reserve-ids-used h passes = rw (passes, eq-eqb next M (unfold M in h))
+
+    pub reserve-insufficient : (next ≡ codeM → ⊥) → c .remaining < n → k ≡ passed c n → lose (Insufficient (c .remaining) (pos n)) ≡ reserveRule (eqb next M) l k
+    unfolding reserveRule
+    reserve-insufficient h short passes = rw (passes, ne-eqb next M (unfold M in h), lt-ltb (c .remaining) n short)
+
+    pub reserve-books : (next ≡ codeM → ⊥) → n ≤ c .remaining → k ≡ passed c n → (reserved : ℕ) → reserved ≡ c .reserved + n
+        → book (c .remaining - n) (seat (account (c .initial) (c .remaining - n) reserved (c .committed)) l) n ≡ reserveRule (eqb next M) l k
+    unfolding reserveRule
+    reserve-books h enough passes reserved e = rw (passes, ne-eqb next M (unfold M in h), le-ltb (c .remaining) n enough, e)
+
+-- ── commit ─────────────────────────────────────────────────────────────────────────────────────
+
+pub commit-negative : (z : ℤ) (booked : ℕ) (c : Option Account) (l : ℕ) → z ≡ negsuc (mag z) → leave InvalidAmount ≡ commitRule z booked c l
+unfolding commitRule
+commit-negative z booked c l e = rw e
+
+module _ (s : Seat) (booked : ℕ) (z : ℤ) (n : ℕ) (amount : z ≡ pos n) where
+  pub commit-missing : s .account ≡ 0 → leave MissingTenant ≡ commitRule z booked (accountOf s) (s .limit)
+  unfolding commitRule
+  commit-missing h = rw (amount, without-account s h)
+
+  module _ (present : s .account ≡ 0 → ⊥) where
+    pub commit-overflows : M < s .committed + n → leave (OverflowOfCommit (s .remaining)) ≡ commitRule z booked (accountOf s) (s .limit)
+    unfolding commitRule
+    commit-overflows above = rw (amount, with-account s present, lt-ltb M (s .committed + n) above)
+
+    module _ (fits : s .committed + n ≤ M) where
+      pub commit-overruns : ltZ (pos (s .remaining)) (pos n -ℤ pos booked) ≡ true → leave (Overrun (s .remaining)) ≡ commitRule z booked (accountOf s) (s .limit)
+      unfolding commitRule
+      commit-overruns exceeds = rw (amount, with-account s present, le-ltb M (s .committed + n) fits, exceeds)
+
+      pub commit-ends : (remaining committed : ℕ) → ltZ (pos (s .remaining)) (pos n -ℤ pos booked) ≡ false → remaining ≡ natural (pos (s .remaining) -ℤ (pos n -ℤ pos booked)) → committed ≡ s .committed + n
+          → end (pos remaining ∷ z ∷ []) (seat (account (s .initial) remaining (s .reserved - booked) committed) (s .limit)) ≡ commitRule z booked (accountOf s) (s .limit)
+      unfolding commitRule
+      commit-ends remaining committed within e f = rw (amount, with-account s present, le-ltb M (s .committed + n) fits, within, e, f)
+
+-- what a commit leaves, with what it spends, is what remained and was booked
+pub commit-leaves : (remaining booked n : ℕ) → ltZ (pos remaining) (pos n -ℤ pos booked) ≡ false → natural (pos remaining -ℤ (pos n -ℤ pos booked)) + n ≡ remaining + booked
+commit-leaves remaining booked n within =
+    let enough = ltb-false (remaining + booked) n (sym (delta-exceeds remaining booked n) ∙ within) in
+    omega (arith, remaining-falls remaining booked n enough)
+
+-- ── release ────────────────────────────────────────────────────────────────────────────────────
+
+module _ (s : Seat) (booked : ℕ) where
+  pub release-missing : s .account ≡ 0 → leave MissingTenant ≡ releaseRule booked (accountOf s) (s .limit)
+  unfolding releaseRule
+  release-missing h = rw (without-account s h)
+
+  pub release-returns : (s .account ≡ 0 → ⊥)
+      → end (pos (s .remaining + booked) ∷ pos booked ∷ []) (seat (account (s .initial) (s .remaining + booked) (s .reserved - booked) (s .committed)) (s .limit)) ≡ releaseRule booked (accountOf s) (s .limit)
+  unfolding releaseRule
+  release-returns h = rw (with-account s h)

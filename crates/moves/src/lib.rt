@@ -1,0 +1,224 @@
+// The account rules by value: what an airline has goes in, and what the rule decides comes out. No table is seen here.
+use numbers::Microcents;
+use numbers::Remainder;
+use numbers::Sign;
+use numbers::Sum;
+ghost use mathlib.Core.Path.{_≡_};
+ghost use mathlib.Core.Bool.{_&&_};
+ghost use Prim.Native.Nat.{_≤_, _<_};
+ghost use lib.Dec.{ltb, eqb};
+ghost use Rattle.rules.specs.RoomAndSoundLedger.{M};
+ghost use Rattle.rules.specs.AccountRules.{ensureRule, topUpRule, limitRule, reserveChecks, reserveRule, commitRule, releaseRule};
+ghost use Rattle.moves.specs.Moves.{SeatSound, accountOf, ensuringMove, toppingUpMove, limitingMove, reservingMove, committingSettlement, releasingSettlement, EnsuringSound, ToppingUpSound, LimitingSound, ReservingSound, CommittingSound, ReleasingSound};
+
+// What a place keeps of a name beside the name: account is 1 with an account and 0 without one, and a limit of 0 is none.
+pub struct Seat {
+    pub initial: u64,
+    pub remaining: u64,
+    pub reserved: u64,
+    pub committed: u64,
+    pub limit: u64,
+    pub account: u8,
+}
+
+pub enum Ensuring {
+    Negative,
+    Present,
+    Opened(Seat),
+}
+
+pub enum ToppingUp {
+    Invalid,
+    Missing,
+    Overflow,
+    Grown(Seat),
+}
+
+pub enum Limiting {
+    Negative,
+    Changed(Seat),
+}
+
+// Insufficient draws an id all the same; the room for a booking is asked by the caller, last.
+pub enum Reserving {
+    NotPositive,
+    Missing,
+    Overflow(u64),
+    Exposed(u64, u64),
+    Insufficient(u64, u64),
+    Booked(Seat, u64),
+}
+
+pub enum Committing {
+    Invalid,
+    Missing,
+    Overflow(u64),
+    Overrun(u64),
+    Ended(Seat),
+}
+
+pub enum Releasing {
+    Missing,
+    Returned(Seat),
+}
+
+const M: u64 = 9223372036854775807;
+
+// "Ensure: negative gives 1. An existing account is left as it is, done. Otherwise initial and remaining are the amount"
+pub fn ensure(seat: Seat, amount: Microcents) -> Ensuring
+    requires { ⌜ SeatSound seat ⌝ }
+    ensures { λ r. ⌜ (ensuringMove (amount .0) r ≡ ensureRule (amount .0) (accountOf seat) (seat .limit)) × EnsuringSound r ⌝ }
+{
+    let Sign::Natural(opening) = numbers::sign_of(amount) else {
+        return Ensuring::Negative;
+    };
+    if seat.account != 0 {
+        return Ensuring::Present;
+    }
+    Ensuring::Opened(Seat {
+        initial: opening,
+        remaining: opening,
+        reserved: 0,
+        committed: 0,
+        limit: seat.limit,
+        account: 1,
+    })
+}
+
+// "Top-up: amount 0 or less gives 2; 3; initial plus amount above M gives 4; else both initial and remaining grow."
+pub fn top_up(seat: Seat, amount: Microcents) -> ToppingUp
+    requires { ⌜ SeatSound seat ⌝ }
+    ensures { λ r. ⌜ (toppingUpMove (amount .0) r ≡ topUpRule (amount .0) (accountOf seat) (seat .limit)) × ToppingUpSound r ⌝ }
+{
+    let Sign::Natural(added) = numbers::sign_of(amount) else {
+        return ToppingUp::Invalid;
+    };
+    if added == 0 {
+        return ToppingUp::Invalid;
+    }
+    if seat.account == 0 {
+        return ToppingUp::Missing;
+    }
+    let Sum::Fits(initial) = numbers::plus(seat.initial, added) else {
+        return ToppingUp::Overflow;
+    };
+    ToppingUp::Grown(Seat {
+        initial,
+        remaining: seat.remaining + added,
+        reserved: seat.reserved,
+        committed: seat.committed,
+        limit: seat.limit,
+        account: 1,
+    })
+}
+
+// "Limit: negative gives 1; 0 removes it, always done; positive sets it"
+pub fn limit(seat: Seat, amount: Microcents) -> Limiting
+    requires { ⌜ SeatSound seat ⌝ }
+    ensures { λ r. ⌜ (limitingMove (amount .0) r ≡ limitRule (amount .0) (accountOf seat) (seat .limit)) × LimitingSound r ⌝ }
+{
+    let Sign::Natural(ceiling) = numbers::sign_of(amount) else {
+        return Limiting::Negative;
+    };
+    Limiting::Changed(Seat {
+        initial: seat.initial,
+        remaining: seat.remaining,
+        reserved: seat.reserved,
+        committed: seat.committed,
+        limit: ceiling,
+        account: seat.account,
+    })
+}
+
+// A limit that is set, and that a sum is above.
+fn exceeds(limit: u64, reserved: u64) -> bool
+    ensures { λ r. ⌜ r ≡ (ltb 0 limit && ltb limit reserved) ⌝ }
+{
+    0 < limit && limit < reserved
+}
+
+// "Reserve: cost 0 or less gives 6 ..; 3; reserved plus cost above M gives 4; limit positive and reserved plus cost above it gives 5; next id
+// equal to M gives 4; remaining below cost gives 6, id drawn"
+pub fn reserve(seat: Seat, cost: Microcents, next_id: u64) -> Reserving
+    requires { ⌜ SeatSound seat ⌝ }
+    ensures { λ r. ⌜ (reservingMove (cost .0) r ≡ reserveRule (eqb «next_id» M) (seat .limit) (reserveChecks (cost .0) (accountOf seat) (seat .limit))) × ReservingSound r ⌝ }
+{
+    let Sign::Natural(asked) = numbers::sign_of(cost) else {
+        return Reserving::NotPositive;
+    };
+    if asked == 0 {
+        return Reserving::NotPositive;
+    }
+    if seat.account == 0 {
+        return Reserving::Missing;
+    }
+    let Sum::Fits(reserved) = numbers::plus(seat.reserved, asked) else {
+        return Reserving::Overflow(seat.reserved);
+    };
+    if exceeds(seat.limit, reserved) {
+        return Reserving::Exposed(seat.reserved, seat.limit);
+    }
+    if next_id == M {
+        return Reserving::Overflow(seat.reserved);
+    }
+    if seat.remaining < asked {
+        return Reserving::Insufficient(seat.remaining, asked);
+    }
+    Reserving::Booked(
+        Seat {
+            initial: seat.initial,
+            remaining: seat.remaining - asked,
+            reserved,
+            committed: seat.committed,
+            limit: seat.limit,
+            account: 1,
+        },
+        asked,
+    )
+}
+
+// "Commit: actual below 0 gives 2; .. committed plus actual above M gives 4; delta = actual - reserved amount; delta above remaining gives 8"
+pub fn commit(seat: Seat, booked: u64, actual: Microcents) -> Committing
+    requires { ⌜ SeatSound seat × (booked ≤ seat .reserved) ⌝ }
+    ensures { λ r. ⌜ (committingSettlement (actual .0) r ≡ commitRule (actual .0) booked (accountOf seat) (seat .limit)) × CommittingSound r ⌝ }
+{
+    let Sign::Natural(spent) = numbers::sign_of(actual) else {
+        return Committing::Invalid;
+    };
+    if seat.account == 0 {
+        return Committing::Missing;
+    }
+    let Sum::Fits(committed) = numbers::plus(seat.committed, spent) else {
+        return Committing::Overflow(seat.remaining);
+    };
+    let delta = numbers::delta(spent, booked);
+    let Remainder::Left(remaining) = numbers::less_delta(seat.remaining, delta) else {
+        return Committing::Overrun(seat.remaining);
+    };
+    Committing::Ended(Seat {
+        initial: seat.initial,
+        remaining,
+        reserved: seat.reserved - booked,
+        committed,
+        limit: seat.limit,
+        account: 1,
+    })
+}
+
+// "Release: .. remaining grows by the amount."
+pub fn release(seat: Seat, booked: u64) -> Releasing
+    requires { ⌜ SeatSound seat × (booked ≤ seat .reserved) ⌝ }
+    ensures { λ r. ⌜ (releasingSettlement booked r ≡ releaseRule booked (accountOf seat) (seat .limit)) × ReleasingSound r ⌝ }
+{
+    if seat.account == 0 {
+        return Releasing::Missing;
+    }
+    Releasing::Returned(Seat {
+        initial: seat.initial,
+        remaining: seat.remaining + booked,
+        reserved: seat.reserved - booked,
+        committed: seat.committed,
+        limit: seat.limit,
+        account: 1,
+    })
+}

@@ -1,0 +1,28 @@
+-- A name by value: its length, and 24 bytes of which those past the length are zero.
+use mathlib.Core.Path.{_≡_}
+use mathlib.Core.List.{List, _++_}
+use Prim.Native.Nat.{ℕ, _-_, _≤_, Ordering, Ordering·lt, Ordering·eq, Ordering·gt}
+use lib.ListN.{length, getD, take, replicate}
+use Rattle.names.specs.declared.Order.{Order}
+use Rattle.names.specs.declared.Order.the-variants.{Before, Same, After}
+use Rattle.names.specs.declared.Name.{Name}
+
+-- the code's answer, in the words of the rules
+abbrev pub orderingOf : Order → Ordering
+orderingOf Before = Ordering·lt
+orderingOf Same = Ordering·eq
+orderingOf After = Ordering·gt
+
+-- the bytes within the length
+abbrev pub spelled : Name → List ℕ
+spelled n = take (n .length) (n .bytes)
+
+-- bytes as a name, with zeros after them
+abbrev pub stored : List ℕ → Name
+stored a = record { length = length a; bytes = a ++ replicate (24 - length a) 0 }
+
+pub record IsStored (n : Name) : Type 0 where
+  pub fits : n .length ≤ 24
+  -- an array has its 24 bytes; a list may have any number
+  pub width : length (n .bytes) ≡ 24
+  pub clear : (i : ℕ) → n .length ≤ i → getD (n .bytes) i 0 ≡ 0

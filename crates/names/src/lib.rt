@@ -1,0 +1,69 @@
+// Names: compared by their bytes, and kept by value.
+ghost use mathlib.Core.Path.{_≡_};
+ghost use Prim.Native.Nat.{_≤_};
+ghost use lib.ListN.{length};
+ghost use Rattle.rules.specs.RoomAndSoundLedger.{order};
+ghost use Rattle.names.specs.Names.{orderingOf, spelled, stored};
+
+pub enum Order {
+    Before,
+    Same,
+    After,
+}
+
+pub struct Name {
+    pub length: u8,
+    pub bytes: [u8; 24],
+}
+
+// "Names are ordered by bytes, a prefix first." Any bytes compare: a name asked for may be too long to be kept.
+pub fn compare(left: &[u8], right: &[u8]) -> Order
+    ensures { λ r. ⌜ orderingOf r ≡ order (now (left .entry)) (now (right .entry)) ⌝ }
+{
+    let mut i = 0;
+    while i < left.len() {
+        if right.len() <= i {
+            return Order::After;
+        }
+        let x = left[i];
+        let y = right[i];
+        if x < y {
+            return Order::Before;
+        }
+        if y < x {
+            return Order::After;
+        }
+        i += 1;
+    }
+    if i < right.len() {
+        return Order::Before;
+    }
+    Order::Same
+}
+
+// A name that is kept, against a part of what was received.
+pub fn compare_name(stored: Name, part: &[u8]) -> Order
+    requires { ⌜ stored .length ≤ 24 ⌝ }
+    ensures { λ r. ⌜ orderingOf r ≡ order (spelled stored) (now (part .entry)) ⌝ }
+{
+    let end = stored.length as usize;
+    let bytes = stored.bytes;
+    compare(&bytes[..end], part)
+}
+
+// The name that a part spells. What it does not fill stays zero, so that a name has one form.
+pub fn name_of(part: &[u8]) -> Name
+    requires { ⌜ length (now part) ≤ 24 ⌝ }
+    ensures { λ r. ⌜ r ≡ stored (now (part .entry)) ⌝ }
+{
+    let mut bytes = [0u8; 24];
+    let mut i = 0;
+    while i < part.len() {
+        bytes[i] = part[i];
+        i += 1;
+    }
+    Name {
+        length: part.len() as u8,
+        bytes,
+    }
+}

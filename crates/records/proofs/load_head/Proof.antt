@@ -1,0 +1,22 @@
+-- `records::load_head` meets its contract: each field is read from its own part.
+use borrow.Author.Needs.{needs}
+use Rattle.records.proofs.load_head.Statement.{statement}
+use Rattle.records.proofs.load_head.Tie as tie
+
+pub load-head-spec : {M : Type 1} → statement M
+load-head-spec =
+    tie.close
+    (tie.spec
+    (λ c. search needs)
+    (λ c. search needs)
+    (λ c. search needs)
+    (λ c κs. search needs)
+    (λ c. search needs)
+    (λ c. search needs)
+    (λ c. search needs)
+    (λ c κs. search needs)
+    (λ c. search needs)
+    (λ c. search needs)
+    (λ c. search needs)
+    (λ c κs. search needs)
+    (λ c. cc))
