@@ -1,2 +1,4 @@
 pub mod Filled
 pub mod Decoding
+pub mod Numbers
+pub mod Steps
