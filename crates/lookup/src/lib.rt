@@ -1,0 +1,83 @@
+// Look-up in the tables of a room: a name's place, the place for a new name, a live booking by its id.
+use contents::Found;
+use names::Order;
+ghost use mathlib.Core.Path.{_≡_};
+ghost use Prim.Native.Nat.{_+_, _*_, _≤_, _<_};
+ghost use lib.ListN.{length};
+ghost use Rattle.rules.specs.Lists.{All, Pairwise};
+ghost use Rattle.rules.specs.RoomAndSoundLedger.{order};
+ghost use Rattle.names.specs.Names.{orderingOf, spelled};
+ghost use Rattle.records.specs.Rows.{row};
+ghost use Rattle.records.specs.Records.{placeOf};
+ghost use Rattle.contents.specs.Contents.{contentsOf, Sized, usedPlaces, liveBookings, placeOfName, placeForName, bookingOfId};
+
+// The name at place i, where it stands in the room, against a part of what was received.
+fn compare_at(room: &[u8], i: usize, part: &[u8]) -> Order
+    requires { ⌜ (56 + 66 * i + 66 ≤ length (now room)) × (placeOf (row 66 (56 + 66 * i) (now room)) .name .length ≤ 24) ⌝ }
+    ensures { λ r. ⌜ orderingOf r ≡ order (spelled (placeOf (row 66 (56 + 66 * i) (now (room .entry))) .name)) (now (part .entry)) ⌝ }
+{
+    let at = 97 + 66 * i;
+    let length = room[at] as usize;
+    let from = at + 1;
+    let end = from + length;
+    names::compare(&room[from..end], part)
+}
+
+// The place of a name, or that it is absent: place by place.
+pub fn find(room: &[u8], part: &[u8]) -> Found
+    requires { ⌜ Sized (now room) × All (λ p. p .name .length ≤ 24) (usedPlaces (contentsOf (now room))) ⌝ }
+    ensures { λ r. ⌜ r ≡ placeOfName (now (part .entry)) (usedPlaces (contentsOf (now (room .entry)))) ⌝ }
+{
+    let sizes = records::load_sizes(room);
+    let used = sizes.used as usize;
+    let mut i = 0;
+    while i < used {
+        let order = compare_at(room, i, part);
+        if let Order::Same = order {
+            return Found::At(i);
+        }
+        i += 1;
+    }
+    Found::Absent
+}
+
+// Where a new name goes: behind the names that come before it.
+pub fn place_for(room: &[u8], part: &[u8]) -> usize
+    requires { ⌜ Sized (now room) × All (λ p. p .name .length ≤ 24) (usedPlaces (contentsOf (now room))) ⌝ }
+    ensures { λ r. ⌜ r ≡ placeForName (now (part .entry)) (usedPlaces (contentsOf (now (room .entry)))) ⌝ }
+{
+    let sizes = records::load_sizes(room);
+    let used = sizes.used as usize;
+    let mut i = 0;
+    while i < used {
+        let Order::Before = compare_at(room, i, part) else {
+            return i;
+        };
+        i += 1;
+    }
+    i
+}
+
+// A live booking by its id, by halving: ids ascend.
+pub fn find_booking(room: &[u8], id: u64) -> Found
+    requires { ⌜ Sized (now room) × Pairwise (λ b c. b .id < c .id) (liveBookings (contentsOf (now room))) ⌝ }
+    ensures { λ r. ⌜ r ≡ bookingOfId id (liveBookings (contentsOf (now (room .entry)))) ⌝ }
+{
+    let sizes = records::load_sizes(room);
+    let base = 56 + 66 * (sizes.names as usize);
+    let mut low = 0;
+    let mut high = sizes.live as usize;
+    while low < high {
+        let middle = (low + high) / 2;
+        let booking = records::load_booking(room, base, middle);
+        if booking.id == id {
+            return Found::At(middle);
+        }
+        if booking.id < id {
+            low = middle + 1;
+        } else {
+            high = middle;
+        }
+    }
+    Found::Absent
+}
