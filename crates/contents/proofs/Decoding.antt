@@ -42,7 +42,7 @@ ledgerIn c =
     let ps : List RulesPlace = map placeIn (usedPlaces c) in
     record { T = c .sizes .names; R = c .sizes .reservations; nextId = c .head .«next_id»; lastVersion = c .head .«last_version»; baseline = c .head .baseline; places = ps; bookings = map (bookingIn ps) (liveBookings c) }
 
-kept-meaning : (c : Option Account) (l : ℕ) → meaning (kept c l) ≡ seat c l
+pub kept-meaning : (c : Option Account) (l : ℕ) → meaning (kept c l) ≡ seat c l
 kept-meaning none l = refl
 kept-meaning (some c) l = refl
 

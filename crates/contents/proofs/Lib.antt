@@ -2,3 +2,5 @@ pub mod Filled
 pub mod Decoding
 pub mod Numbers
 pub mod Steps
+pub mod Seating
+pub mod Settling

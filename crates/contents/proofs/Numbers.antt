@@ -1,24 +1,23 @@
 -- The numbers of places: what a look-up finds is the number of the name's place, and how numbers change when a place is written, put in or taken out.
-use mathlib.Core.Path.{_≡_, refl, sym, _∙_, ap, subst}
-use mathlib.Core.Bool.{Bool, true, false, not, cond, _||_}
+use mathlib.Core.Path.{_≡_, refl, sym, ap, subst}
+use mathlib.Core.Bool.{true, false, not, cond, _||_}
 use mathlib.Core.List.{List, [], _∷_, _++_, map}
-use Prim.Native.Nat.{ℕ, zero, suc, pred, _+_, _≤_, _<_, Ordering, Ordering·lt, Ordering·eq, Ordering·gt}
+use Prim.Native.Nat.{ℕ, suc, pred, _≤_, _<_, Ordering·lt, Ordering·eq, Ordering·gt}
 use native.Mathlib.Omega.{arith}
 use borrow.Author.Tests.{lt-ltb, le-ltb, ltb-true}
 use lib.Dec.{leb, ltb, isEq, leb·zero, leb·suc-zero, leb·suc-suc}
-use lib.ListN.{length, getD, take, drop, set}
+use lib.ListN.{length, take, drop, set}
 use Rattle.rules.specs.Lists.{any, keep, All, Pairwise}
 use Rattle.rules.specs.RoomAndSoundLedger.{Name, order, same, Seat, Place, place, isAt, holdsPlace, Before}
 use Rattle.rules.specs.AccountRules.{inserted, put, freed}
 use Rattle.rules.proofs.Tests.{by-bool, by-order, true-false, or-false}
 use Rattle.rules.proofs.Lists.{all-map, keep-all}
-use Rattle.rules.proofs.Names.{order-self, order-eq, order-flip, order-trans, same-self, same-true, same-false, other, lt-other, gt-other}
+use Rattle.rules.proofs.Names.{order-self, order-eq, order-flip, order-trans, same-self, same-true, other, lt-other, gt-other}
 use Rattle.rules.proofs.Places.{Over, over-any, over-trans}
-use Rattle.names.specs.Names.{spelled, stored}
+use Rattle.names.specs.Names.{spelled}
 use Rattle.names.proofs.Storing.{spelled-stored}
 use Rattle.contents.specs.Contents.{later, placeOfName, goesBehind, placeForName}
 use Rattle.contents.specs.Room.{placeRecord, placeNumber}
-use Rattle.contents.specs.declared.Found.{Found}
 use Rattle.contents.specs.declared.Found.the-variants.{At, Absent}
 
 -- ── what is found ──────────────────────────────────────────────────────────────────────────────

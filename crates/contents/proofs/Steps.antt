@@ -1,33 +1,28 @@
 -- What the steps on the tables mean to the ledger that a room holds: a seat written, a place put in or taken out, a booking added or ended, a new
 -- head. Each says that the contents after the step are those of the ledger after it.
-use mathlib.Core.Path.{_≡_, refl, sym, _∙_, ap, ap₂, subst}
-use mathlib.Core.Logic.{_≢_}
-use mathlib.Core.Bool.{Bool, true, false, not, cond, _||_}
+use mathlib.Core.Path.{_≡_, refl, sym, _∙_, ap, ap₂}
+use mathlib.Core.Bool.{true, false, not, cond}
 use mathlib.Core.List.{List, [], _∷_, _++_, map, map-append}
-use mathlib.Core.Option.{Option, none, some}
+use mathlib.Core.Option.{none, some}
 use Prim.Native.Nat.{ℕ, zero, suc, pred, _+_, _-_, _≤_, _<_}
 use native.Mathlib.Omega.{arith}
 use borrow.Author.Tests.{eqb-true, ne-eqb}
-use lib.Dec.{leb, ltb, eqb}
-use lib.ListN.{length, getD, take, drop, set, replicate, length-map, length-append, length-take, length-drop}
+use lib.ListN.{length, getD, take, drop, set, replicate, length-map, length-append, length-drop}
 use lib.Seq.{take-at, drop-at, length-take-le}
-use Rattle.rules.specs.Lists.{first, any, keep, All, Pairwise}
-use Rattle.rules.specs.RoomAndSoundLedger.{Name, same, Seat, Place as RulesPlace, place, Booking as RulesBooking, Ledger, isAt, holdsPlace, seatIn, hasAccount, Sound}
-use Rattle.rules.specs.AccountRules.{put, freed, hasId, booked, ended, withPlaces, withBookings}
-use Rattle.rules.proofs.Tests.{by-bool, true-false}
+use Rattle.rules.specs.Lists.{first, keep, All, Pairwise}
+use Rattle.rules.specs.RoomAndSoundLedger.{Name, same, Seat, Place as RulesPlace, place, Booking as RulesBooking, Ledger, holdsPlace, seatIn, hasAccount, Sound}
+use Rattle.rules.specs.AccountRules.{put, freed, hasId, booked, ended, withPlaces, withBookings, drawn}
+use Rattle.rules.proofs.Tests.{by-bool}
 use Rattle.rules.proofs.Lists.{all-map, all-both, keep-all}
 use Rattle.rules.proofs.Places.{more, length-put, account-holds}
 use Rattle.rules.proofs.Bookings.{Below}
 use Rattle.records.proofs.Rows.{map-set}
-use Rattle.records.specs.declared.Place.{Place}
 use Rattle.records.specs.declared.Booking.{Booking}
-use Rattle.records.specs.declared.Head.{Head}
-use Rattle.records.specs.declared.Sizes.{Sizes}
-use Rattle.contents.specs.Contents.{Contents, contents, emptyPlace, emptyBooking, later, placeForName, bookingOfId, withCounts, withHead, withPlace, opened, closed, withOwner, raised, lowered, renumbered, insertedPlace, freedPlace, appendedBooking, removedBooking}
-use Rattle.contents.specs.Room.{placeRecord, placeNumber, bookingRecord, filled, sizesIn, headIn, contentsIn}
+use Rattle.contents.specs.Contents.{contents, emptyPlace, emptyBooking, later, placeForName, bookingOfId, withHead, withPlace, opened, closed, raised, lowered, renumbered, insertedPlace, freedPlace, appendedBooking, removedBooking}
+use Rattle.contents.specs.Room.{placeRecord, placeNumber, bookingRecord, filled, headIn, contentsIn}
 use Rattle.contents.specs.declared.Found.{Found}
 use Rattle.contents.specs.declared.Found.the-variants.{At, Absent}
-use Rattle.contents.proofs.Filled.{filled-set, filled-more, filled-opened, filled-closed, used-part}
+use Rattle.contents.proofs.Filled.{filled-set, filled-more, filled-opened, filled-closed}
 use Rattle.contents.proofs.Numbers.{number-below, put-replaces, number-replaced, place-for-at-most, put-opens, number-opened, freed-closes, number-freed}
 
 -- ── lists of records ───────────────────────────────────────────────────────────────────────────
@@ -142,21 +137,32 @@ module _ (L : Ledger) (sound : Sound L) where
       (all-both (λ b. holdsPlace (b .name) ps ≡ true) (λ b. same (b .name) a ≡ false) _ (λ b k n. sym (owned b (number-freed a (b .name) ps (sound .names-ascend) h k n))) bs owners-held none-live) in
       λ i. contents (record { names = L .T; reservations = L .R; used = count i; live = length bs }) (headIn L) (places i) (numbers i)
 
+-- ── bookings ───────────────────────────────────────────────────────────────────────────────────
+
+-- on any ledger: between a seat written and its booking added or ended, the ledger is not sound
+module _ (L : Ledger) where
   -- a booking added
-  pub booking-added : (b : RulesBooking) → length bs < L .R → appendedBooking (bookingRecord ps b) (contentsIn L) ≡ contentsIn (withBookings L (bs ++ b ∷ []))
+  pub booking-added : (b : RulesBooking) → length (L .bookings) < L .R → appendedBooking (bookingRecord (L .places) b) (contentsIn L) ≡ contentsIn (withBookings L (L .bookings ++ b ∷ []))
   unfolding contentsIn appendedBooking
   booking-added b room =
-      let count : suc (length bs) ≡ length (bs ++ b ∷ []) = sym (length-append bs (b ∷ []) ∙ omega arith) in
-      let bookings = table-more (bookingRecord ps) (L .R) emptyBooking bs b room in
-      λ i. contents (record { names = L .T; reservations = L .R; used = length ps; live = count i }) (headIn L) (filled (L .T) emptyPlace (map placeRecord ps)) (bookings i)
+      let count : suc (length (L .bookings)) ≡ length (L .bookings ++ b ∷ []) = sym (length-append (L .bookings) (b ∷ []) ∙ omega arith) in
+      let bookings = table-more (bookingRecord (L .places)) (L .R) emptyBooking (L .bookings) b room in
+      λ i. contents (record { names = L .T; reservations = L .R; used = length (L .places); live = count i }) (headIn L) (filled (L .T) emptyPlace (map placeRecord (L .places))) (bookings i)
 
   -- a booking ended
-  pub booking-ended : (id i : ℕ) → i < length bs → ended id bs ≡ take i bs ++ drop (suc i) bs → removedBooking i (contentsIn L) ≡ contentsIn (withBookings L (ended id bs))
+  pub booking-ended : (id i : ℕ) → length (L .bookings) ≤ L .R → i < length (L .bookings) → ended id (L .bookings) ≡ take i (L .bookings) ++ drop (suc i) (L .bookings)
+      → removedBooking i (contentsIn L) ≡ contentsIn (withBookings L (ended id (L .bookings)))
   unfolding contentsIn removedBooking
-  booking-ended id i below closes =
-      let count : pred (length bs) ≡ length (ended id bs) = sym (ap length closes ∙ length-append (take i bs) (drop (suc i) bs) ∙ ap₂ _+_ (length-take-le i bs (omega arith)) (length-drop (suc i) bs) ∙ omega arith) in
-      let bookings = table-closed (bookingRecord ps) (L .R) emptyBooking bs i below (sound .reservations-fit) ∙ ap (λ cs. filled (L .R) emptyBooking (map (bookingRecord ps) cs)) (sym closes) in
-      λ j. contents (record { names = L .T; reservations = L .R; used = length ps; live = count j }) (headIn L) (filled (L .T) emptyPlace (map placeRecord ps)) (bookings j)
+  booking-ended id i fit below closes =
+      let count : pred (length (L .bookings)) ≡ length (ended id (L .bookings)) =
+      sym (ap length closes ∙ length-append (take i (L .bookings)) (drop (suc i) (L .bookings)) ∙ ap₂ _+_ (length-take-le i (L .bookings) (omega arith)) (length-drop (suc i) (L .bookings)) ∙ omega arith) in
+      let bookings = table-closed (bookingRecord (L .places)) (L .R) emptyBooking (L .bookings) i below fit ∙ ap (λ cs. filled (L .R) emptyBooking (map (bookingRecord (L .places)) cs)) (sym closes) in
+      λ j. contents (record { names = L .T; reservations = L .R; used = length (L .places); live = count j }) (headIn L) (filled (L .T) emptyPlace (map placeRecord (L .places))) (bookings j)
+
+  -- "next id grows by 1"
+  pub id-drawn : withHead (headIn (drawn L)) (contentsIn L) ≡ contentsIn (drawn L)
+  unfolding contentsIn
+  id-drawn = refl
 
 -- ── a live booking found by its id ─────────────────────────────────────────────────────────────
 
