@@ -201,3 +201,5 @@ answersToLines l (line ∷ lines) = let a : Answered = answerToLine l line in an
 -- "A house program (T 256, R 1,024, from a fresh ledger) reads lines .., one frame a line"
 unfoldable pub house : (input : List ℕ) → List ℕ
 house input = answersToLines (sound (fresh 256 1024)) (linesOf input)
+
+-- "Whole case, input: .. Output: ..": specs/MarkedCases.antt, `wholeCaseInput` and `wholeCaseOutput`

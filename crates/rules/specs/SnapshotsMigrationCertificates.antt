@@ -223,6 +223,8 @@ fits64 (negsuc n) = leb n M
 
 -- ── conservation ───────────────────────────────────────────────────────────────────────────────
 
+-- Ledger validation, which the paper has before this, ends with conservation, so conservation is defined first.
+
 -- "Conservation of one row: the exact sum of remaining, reserved and committed; outside signed 64 bits gives 15. If the sum isn't
 -- initial, delta = sum - initial gives 14, or 15 if delta doesn't fit. If remaining is negative, 14 with remaining as delta."
 unfoldable pub rowConservation : Row → Option Refusal
