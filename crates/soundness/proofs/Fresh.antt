@@ -1,0 +1,80 @@
+-- When a ledger is made, and that zeros with the sizes and the head stored over them are its room.
+use mathlib.Core.Path.{_≡_, sym, ap, ap₂, _∙_}
+use mathlib.Core.Bool.{true, _&&_}
+use mathlib.Core.List.{List, []}
+use mathlib.Core.Option.{some}
+use Prim.Native.Nat.{ℕ, _+_, _-_, _*_, _≤_}
+use native.Mathlib.Omega.{arith}
+use borrow.Author.Tests.{leb-true, le-leb}
+use lib.Dec.{leb}
+use lib.ListN.{length, replicate, length-replicate}
+use Rattle.rules.specs.RoomAndSoundLedger.{Ledger, InRange, isInRange, fresh, made}
+use Rattle.rules.proofs.Tests.{by-test, and-true, none-some}
+use Rattle.records.specs.Rows.{put}
+use Rattle.records.specs.Records.{placeOf, placeBytes, bookingOf, bookingBytes, pairBytes, headBytes, SizesFit, HeadFits, places, bookings}
+use Rattle.records.specs.declared.Head.{Head}
+use Rattle.records.specs.declared.Sizes.{Sizes}
+use Rattle.records.proofs.Records.{bytes-of-place, bytes-of-booking, pair-length}
+use Rattle.records.proofs.Rows.{put-length}
+use Rattle.records.proofs.Room.{sizes-stored, head-stored}
+use Rattle.contents.specs.Contents.{contents, contentsOf, baseOf, roomSize, emptyPlace, emptyBooking}
+use Rattle.contents.specs.Room.{filled, contentsIn}
+use Rattle.soundness.proofs.Zeros.{zeros, row-zeros, zeros-empty}
+use Rattle.soundness.proofs.Parts.{empty-place, empty-booking, contents-with}
+
+-- ── when a ledger is made ──────────────────────────────────────────────────────────────────────
+
+in-range : (low high n : ℕ) → isInRange low high n ≡ true → InRange low high n
+in-range low high n e = let (a, b) = and-true (leb low n) (leb n high) e in (leb-true low n a, leb-true n high b)
+
+is-in-range : (low high n : ℕ) → InRange low high n → isInRange low high n ≡ true
+is-in-range low high n h = ap₂ _&&_ (le-leb low n (h .0)) (le-leb n high (h .1))
+
+module _ (t r : ℕ) where
+  pub made-some : (L : Ledger) → made t r ≡ some L → InRange 1 256 t × InRange 1 1024 r × (fresh t r ≡ L)
+  unfolding made
+  made-some L =
+      by-test (λ o. o ≡ some L → InRange 1 256 t × InRange 1 1024 r × (fresh t r ≡ L)) (isInRange 1 256 t && isInRange 1 1024 r)
+      (λ e h. let (a, b) = and-true (isInRange 1 256 t) (isInRange 1 1024 r) e in let q : fresh t r ≡ L = cc in (in-range 1 256 t a, in-range 1 1024 r b, q))
+      (λ e h. none-some h)
+
+  pub made-fresh : InRange 1 256 t → InRange 1 1024 r → made t r ≡ some (fresh t r)
+  unfolding made
+  made-fresh h k = rw (is-in-range 1 256 t h, is-in-range 1 1024 r k)
+
+-- ── the room of a fresh ledger ─────────────────────────────────────────────────────────────────
+
+abbrev pub freshSizes : (t r : ℕ) → Sizes
+freshSizes t r = record { names = t; reservations = r; used = 0; live = 0 }
+
+abbrev pub freshHead : Head
+freshHead = record { «next_id» = 1; «last_version» = 0; baseline = 0 }
+
+abbrev pub sizesPut : Sizes → List ℕ → List ℕ
+sizesPut s xs = put 40 16 (put 0 16 xs (pairBytes (s .names) (s .reservations))) (pairBytes (s .used) (s .live))
+
+sizes-put-length : (s : Sizes) (xs : List ℕ) → 56 ≤ length xs → length (sizesPut s xs) ≡ length xs
+sizes-put-length s xs h =
+    let ys = put 0 16 xs (pairBytes (s .names) (s .reservations)) in
+    let e : length ys ≡ length xs = put-length 0 16 xs (pairBytes (s .names) (s .reservations)) (omega arith) (pair-length (s .names) (s .reservations)) in
+    put-length 40 16 ys (pairBytes (s .used) (s .live)) (omega arith) (pair-length (s .used) (s .live)) ∙ e
+
+filled-none : {A : Type 0} (n : ℕ) (x : A) → replicate n x ≡ filled n x []
+unfolding filled
+filled-none n x = let e : n ≡ n - 0 = omega arith in ap (λ m. replicate m x) e
+
+pub fresh-room : (t r n : ℕ) → n ≡ roomSize t r → SizesFit (freshSizes t r) → HeadFits freshHead
+    → contentsOf (put 16 24 (sizesPut (freshSizes t r) (zeros n)) (headBytes freshHead)) ≡ contentsIn (fresh t r)
+unfolding contentsIn fresh
+fresh-room t r n e sizes-fit head-fits =
+    let base = baseOf t in
+    let long : base + 18 * r ≤ length (zeros n) = omega (arith, length-replicate {A = ℕ} n 0) in
+    let l = sizes-put-length (freshSizes t r) (zeros n) (omega arith) in
+    let a = sizes-stored t base r (zeros n) (omega arith) long (freshSizes t r) sizes-fit in
+    let b = head-stored t base r (sizesPut (freshSizes t r) (zeros n)) (omega arith) (omega arith) freshHead head-fits in
+    let no-places : places t (zeros n) ≡ replicate t emptyPlace =
+    zeros-empty placeOf placeBytes 66 bytes-of-place 56 t (zeros n) (row-zeros (66 * t) 56 n (omega arith)) ∙ ap (replicate t) empty-place in
+    let no-bookings : bookings base r (zeros n) ≡ replicate r emptyBooking =
+    zeros-empty bookingOf bookingBytes 18 bytes-of-booking base r (zeros n) (row-zeros (18 * r) base n (omega arith)) ∙ ap (replicate r) empty-booking in
+    sym (contents-with (freshSizes t r) freshHead (put 16 24 (sizesPut (freshSizes t r) (zeros n)) (headBytes freshHead)) (sym (b .sizes ∙ a .sizes)) (sym (b .head)))
+    ∙ ap₂ (contents (freshSizes t r) freshHead) (b .places ∙ a .places ∙ no-places ∙ filled-none t emptyPlace) (b .bookings ∙ a .bookings ∙ no-bookings ∙ filled-none r emptyBooking)

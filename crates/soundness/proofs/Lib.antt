@@ -1,0 +1,17 @@
+pub mod Deciding
+pub mod Words
+pub mod Seats
+pub mod Standing
+pub mod Tables
+pub mod Places
+pub mod Bookings
+pub mod Zeros
+pub mod Parts
+pub mod Fresh
+pub mod Indices
+pub mod Owners
+pub mod Kept
+pub mod NameBytes
+pub mod FactsToSound
+pub mod SoundToFacts
+pub mod Sound

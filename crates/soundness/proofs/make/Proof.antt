@@ -1,0 +1,69 @@
+-- `soundness::make` meets its contract.
+use mathlib.Core.Path.{_≡_, refl, sym, ap, _∙_}
+use native.Mathlib.Omega.{arith}
+use borrow.Author.Needs.{needs}
+use lib.ListN.{length}
+use Rattle.rules.proofs.Tests.{none-some}
+use Rattle.records.specs.Rows.{put}
+use Rattle.records.specs.Records.{headBytes}
+use Rattle.contents.specs.Contents.{contentsOf}
+use Rattle.contents.specs.Room.{contentsIn}
+use Rattle.soundness.specs.Facts.{SizesSound}
+use Rattle.soundness.proofs.Deciding.{refused, accepted}
+use Rattle.soundness.proofs.Fresh.{made-some, made-fresh, freshSizes, freshHead, sizesPut, fresh-room}
+use Rattle.soundness.proofs.Zeros.{zeros}
+use Rattle.soundness.proofs.make.Statement.{statement}
+use Rattle.soundness.proofs.make.Tie as tie
+
+returns : tie.Need-returns
+returns c =
+    record {
+      overwrites = λ L e size. let m = made-some _ _ L e in absurd (refused (c .before .sizes-sound .ensures) (c .if1 .taken) (record { names = m .0; reservations = m .1; used = omega arith; live = omega arith; size = size }));
+      out-of-range = λ _. record { answer = refl; same = refl };
+      other-size = λ _. record { answer = refl; same = refl };
+    }
+
+sized : (c : tie.Else1) → let a = c .before .before .before .args in SizesSound (freshSizes (a .names) (a .reservations)) (length (a .room .now))
+sized c = accepted (c .before .sizes-sound .ensures) (c .if1 .left)
+
+store-sizes-requires : tie.Need-store-sizes-requires
+store-sizes-requires c κs =
+    let cleared = c .before .before .before in
+    omega (arith, sized (cleared .before .before) .size, cleared .clear .kept .0)
+
+store-head-requires : tie.Need-store-head-requires
+store-head-requires c κs =
+    let sizes = c .before .before .before in
+    let cleared = sizes .before .before .before .before in
+    omega (arith, sized (cleared .before .before) .size, cleared .clear .kept .0, sizes .store-sizes .kept .0)
+
+returns-2 : tie.Need-returns-2
+returns-2 c =
+    let head = c .before .before in
+    let sizes = head .before .before .before .before in
+    let cleared = sizes .before .before .before .before in
+    let start = cleared .before .before in
+    let a = start .before .before .before .args in
+    let written : head .store-head .last .0 ≡ put 16 24 (sizesPut (freshSizes (a .names) (a .reservations)) (zeros (length (a .room .now)))) (headBytes freshHead) =
+    head .store-head .ensures .0 ∙ ap (λ xs. put 16 24 xs (headBytes freshHead)) (sizes .store-sizes .ensures .0 ∙ ap (sizesPut (freshSizes (a .names) (a .reservations))) (cleared .clear .ensures)) in
+    record {
+      overwrites = λ L e size. record {
+        answer = refl;
+        size = head .store-head .kept .0 ∙ sizes .store-sizes .kept .0 ∙ cleared .clear .kept .0;
+        holds = ap contentsOf written ∙ fresh-room _ _ _ size (sizes .store-sizes .ensures .1) (head .store-head .ensures .1) ∙ ap contentsIn (made-some _ _ L e .2);
+      };
+      out-of-range = λ e. none-some (sym e ∙ made-fresh _ _ (sized start .names) (sized start .reservations));
+      other-size = λ n. absurd (n (sized start .size));
+    }
+
+pub make-spec : {M : Type 1} → statement M
+make-spec =
+    tie.close
+    (tie.spec
+    (λ c κs. search needs)
+    returns
+    (λ c κs. search needs)
+    store-sizes-requires
+    store-head-requires
+    (λ c. search needs)
+    returns-2)

@@ -1,0 +1,3 @@
+pub mod Facts
+pub mod Steps
+pub mod Making

@@ -1,0 +1,27 @@
+-- Document 01: "making one overwrites the room, or gives 24 exactly when T or R is out of range". Our decision: also when the memory lent is not of
+-- just the size that they ask for.
+use mathlib.Core.Path.{_≡_}
+use mathlib.Core.List.{List}
+use mathlib.Core.Option.{none, some}
+use Prim.Native.Nat.{ℕ}
+use lib.ListN.{length}
+use Rattle.rules.specs.RoomAndSoundLedger.{Ledger, made}
+use Rattle.contents.specs.Contents.{contentsOf, roomSize}
+use Rattle.contents.specs.Room.{contentsIn}
+use Rattle.soundness.specs.declared.Made.{Made}
+use Rattle.soundness.specs.declared.Made.the-variants.{Done, UnsoundLedger}
+
+-- the memory is the room of this ledger
+pub record Becomes (L : Ledger) (before : List ℕ) (r : Made) (after : List ℕ) : Type 0 where
+  pub answer : r ≡ Done
+  pub size : length after ≡ length before
+  pub holds : contentsOf after ≡ contentsIn L
+
+pub record Untouched (before : List ℕ) (r : Made) (after : List ℕ) : Type 0 where
+  pub answer : r ≡ UnsoundLedger
+  pub same : after ≡ before
+
+pub record Makes (names reservations : ℕ) (before : List ℕ) (r : Made) (after : List ℕ) : Type 0 where
+  pub overwrites : (L : Ledger) → made names reservations ≡ some L → length before ≡ roomSize names reservations → Becomes L before r after
+  pub out-of-range : made names reservations ≡ none → Untouched before r after
+  pub other-size : (length before ≡ roomSize names reservations → ⊥) → Untouched before r after

@@ -1,0 +1,369 @@
+// Whether lent memory is the room of a sound ledger, and the making of a fresh one. Every clause of document 01's paragraph is asked: once over the
+// places, once over the bookings, and once over the room not in use.
+use names::Name;
+use names::Order;
+use records::Booking;
+use records::Head;
+use records::Place;
+use records::Sizes;
+ghost use mathlib.Core.Path.{_≡_};
+ghost use mathlib.Core.Bool.{true, false};
+ghost use Prim.Native.Nat.{_+_, _-_, _*_, _≤_, _<_};
+ghost use lib.ListN.{length, replicate};
+ghost use Rattle.rules.specs.RoomAndSoundLedger.{M, InRange, isVacant};
+ghost use Rattle.names.specs.Names.{spelled, IsStored};
+ghost use Rattle.moves.specs.Moves.{meaning, SeatSound};
+ghost use Rattle.records.specs.Records.{sizesOf, headOf, places, bookings};
+ghost use Rattle.contents.specs.Contents.{contentsOf};
+ghost use Rattle.contents.specs.Room.{SoundRoom};
+ghost use Rattle.soundness.specs.Facts.{Decides, SizesSound, VersionSound, HeadSound, seatAt, PlacesSound, TablesSound, RoomFacts};
+ghost use Rattle.soundness.specs.Steps.{Leaves, ZeroBelow, placeAt, NameFollows, Noted, Follows, Booked};
+ghost use Rattle.soundness.specs.Making.{Makes};
+
+const M: u64 = 9223372036854775807;
+
+const TAG: u64 = 9223372036854775808;
+
+fn in_range(value: u64, low: u64, high: u64) -> bool
+    ensures { λ r. ⌜ Decides (InRange low high value) r ⌝ }
+{
+    if value < low {
+        return false;
+    }
+    value <= high
+}
+
+// "T and R are in range", no more is in use than there is room for, and the memory is of just that size.
+fn sizes_sound(sizes: Sizes, bytes: usize) -> bool
+    ensures { λ r. ⌜ Decides (SizesSound sizes bytes) r ⌝ }
+{
+    if !in_range(sizes.names, 1, 256) {
+        return false;
+    }
+    if !in_range(sizes.reservations, 1, 1024) {
+        return false;
+    }
+    if sizes.names < sizes.used {
+        return false;
+    }
+    if sizes.reservations < sizes.live {
+        return false;
+    }
+    bytes == 56 + 66 * (sizes.names as usize) + 18 * (sizes.reservations as usize)
+}
+
+// "last version is 0 or has bit 63 set and the low 63 bits not zero": the tag is tested and the fence cut out by mask.
+fn version_sound(version: u64) -> bool
+    ensures { λ r. ⌜ Decides (VersionSound version) r ⌝ }
+{
+    if version == 0 {
+        return true;
+    }
+    if version & TAG == 0 {
+        return false;
+    }
+    version & M != 0
+}
+
+// "next id is 1 to M"; the baseline is at most M.
+fn head_sound(head: Head) -> bool
+    ensures { λ r. ⌜ Decides (HeadSound head) r ⌝ }
+{
+    if !in_range(head.next_id, 1, M) {
+        return false;
+    }
+    if M < head.baseline {
+        return false;
+    }
+    version_sound(head.last_version)
+}
+
+// "bytes past the length zero"
+fn name_sound(name: Name) -> bool
+    ensures { λ r. ⌜ Decides (IsStored name) r ⌝ }
+{
+    if 24 < name.length {
+        return false;
+    }
+    let bytes = name.bytes;
+    let mut i = name.length as usize;
+    while i < 24 {
+        if bytes[i] != 0 {
+            return false;
+        }
+        i += 1;
+    }
+    true
+}
+
+// "remaining, reserved and committed at least 0, adding up exactly to initial, itself at most M": by differences, so that no sum can wrap
+fn adds_up(place: Place) -> bool
+    ensures { λ r. ⌜ Decides ((place .remaining + place .reserved + place .committed ≡ place .initial) × (place .initial ≤ M)) r ⌝ }
+{
+    if M < place.initial {
+        return false;
+    }
+    if place.initial < place.remaining {
+        return false;
+    }
+    let held = place.initial - place.remaining;
+    if held < place.reserved {
+        return false;
+    }
+    held - place.reserved == place.committed
+}
+
+// "a name without an account has zero amounts and a positive limit": amounts that add up to zero are zero
+fn amounts_sound(place: Place) -> bool
+    ensures { λ r. ⌜ Decides (SeatSound (seatAt place) × (isVacant (meaning (seatAt place)) ≡ false)) r ⌝ }
+{
+    if M < place.limit {
+        return false;
+    }
+    if !adds_up(place) {
+        return false;
+    }
+    if place.account != 0 {
+        return place.account == 1;
+    }
+    if place.initial != 0 {
+        return false;
+    }
+    place.limit != 0
+}
+
+// What of the baseline the committed amounts so far have not reached.
+fn uncovered(left: u64, committed: u64) -> u64
+    ensures { λ r. ⌜ r ≡ left - committed ⌝ }
+{
+    if left < committed {
+        return 0;
+    }
+    left - committed
+}
+
+// One pass over the places: each is sound, names ascend, the committed total reaches the baseline; what each has reserved is noted.
+fn places_sound(room: &[u8], used: usize, baseline: u64, reserved: &mut [u64]) -> bool
+    requires within { ⌜ 56 + 66 * used ≤ length (now room) ⌝ }
+    requires few { ⌜ used ≤ length (now reserved) ⌝ }
+    ensures decides { λ r. ⌜ Decides (PlacesSound baseline (places used (now (room .entry)))) r ⌝ }
+    ensures noted { λ r. ⌜ (r ≡ true → Noted used (now (room .entry)) (now (reserved .exit))) ⌝ }
+{
+    let mut left = baseline;
+    let mut i = 0;
+    while i < used {
+        let place = records::load_place(room, i);
+        if !amounts_sound(place) {
+            return false;
+        }
+        let name = place.name;
+        if !name_sound(name) {
+            return false;
+        }
+        if !ascends(room, i) {
+            return false;
+        }
+        left = uncovered(left, place.committed);
+        reserved[i] = place.reserved;
+        i += 1;
+    }
+    left == 0
+}
+
+// The name at i where it stands in the room: its length, and after that its bytes.
+fn name_at(room: &[u8], i: usize) -> &[u8]
+    requires within { ⌜ 56 + 66 * i + 66 ≤ length (now room) ⌝ }
+    requires fits { ⌜ placeAt i (now room) .name .length ≤ 24 ⌝ }
+    ensures { λ r. ⌜ now r ≡ spelled (placeAt i (now (room .entry)) .name) ⌝ }
+{
+    let at = 97 + 66 * i;
+    let from = at + 1;
+    let end = from + (room[at] as usize);
+    &room[from..end]
+}
+
+// The name at i comes after the one before it, if there is one. Both are compared where they stand.
+fn ascends(room: &[u8], i: usize) -> bool
+    requires within { ⌜ 56 + 66 * i + 66 ≤ length (now room) ⌝ }
+    requires before { ⌜ (0 < i → placeAt (i - 1) (now room) .name .length ≤ 24) ⌝ }
+    requires here { ⌜ placeAt i (now room) .name .length ≤ 24 ⌝ }
+    ensures { λ r. ⌜ Decides (NameFollows i (now (room .entry))) r ⌝ }
+{
+    if i == 0 {
+        return true;
+    }
+    let order = names::compare(name_at(room, i - 1), name_at(room, i));
+    match order {
+        Order::Before => true,
+        Order::Same => false,
+        Order::After => false,
+    }
+}
+
+// "room not in use is zero"
+fn is_zero(part: &[u8]) -> bool
+    ensures { λ r. ⌜ Decides (ZeroBelow (length (now (part .entry))) (now (part .entry))) r ⌝ }
+{
+    let mut i = 0;
+    while i < part.len() {
+        if part[i] != 0 {
+            return false;
+        }
+        i += 1;
+    }
+    true
+}
+
+// A live booking: "strictly ascending ids from 1 to below next id, a positive amount"; its owner is a place in use.
+fn booking_sound(booking: Booking, last: u64, next_id: u64, used: u64) -> bool
+    ensures { λ r. ⌜ Decides (Follows last «next_id» used booking) r ⌝ }
+{
+    if booking.id <= last {
+        return false;
+    }
+    if next_id <= booking.id {
+        return false;
+    }
+    if booking.amount == 0 {
+        return false;
+    }
+    booking.owner < used
+}
+
+// One pass over the bookings: each takes its amount out of what its owner has reserved. A place without an account has nothing reserved, so a
+// booking of one finds too little.
+fn bookings_sound(
+    room: &[u8],
+    base: usize,
+    sizes: Sizes,
+    next_id: u64,
+    reserved: &mut [u64],
+) -> bool
+    requires within { ⌜ base + 18 * sizes .live ≤ length (now room) ⌝ }
+    requires few { ⌜ sizes .used ≤ length (now reserved) ⌝ }
+    ensures { λ r. ⌜ Leaves (Booked 0 «next_id» (sizes .used) (now (reserved .entry)) (bookings base (sizes .live) (now (room .entry)))) (ZeroBelow (sizes .used) (now (reserved .exit))) r ⌝ }
+{
+    let live = sizes.live as usize;
+    let mut last = 0;
+    let mut j = 0;
+    while j < live {
+        let booking = records::load_booking(room, base, j);
+        if !booking_sound(booking, last, next_id, sizes.used) {
+            return false;
+        }
+        let owner = booking.owner as usize;
+        if reserved[owner] < booking.amount {
+            return false;
+        }
+        reserved[owner] = reserved[owner] - booking.amount;
+        last = booking.id;
+        j += 1;
+    }
+    true
+}
+
+// "each account's reserved is the sum of its live reservations": nothing is left.
+fn nothing_left(reserved: &[u64], used: usize) -> bool
+    requires { ⌜ used ≤ length (now reserved) ⌝ }
+    ensures { λ r. ⌜ Decides (ZeroBelow used (now (reserved .entry))) r ⌝ }
+{
+    let mut i = 0;
+    while i < used {
+        if reserved[i] != 0 {
+            return false;
+        }
+        i += 1;
+    }
+    true
+}
+
+// The tables of a room whose sizes and head are sound.
+fn tables_sound(room: &[u8], sizes: Sizes, head: Head) -> bool
+    requires read { ⌜ (sizes ≡ sizesOf (now room)) × (head ≡ headOf (now room)) ⌝ }
+    requires sized { ⌜ SizesSound sizes (length (now room)) ⌝ }
+    ensures { λ r. ⌜ Decides (TablesSound (contentsOf (now (room .entry)))) r ⌝ }
+{
+    let used = sizes.used as usize;
+    let base = 56 + 66 * (sizes.names as usize);
+    let unused_places = 56 + 66 * used;
+    let unused_bookings = base + 18 * (sizes.live as usize);
+    let mut reserved = [0u64; 256];
+    if !places_sound(room, used, head.baseline, &mut reserved) {
+        return false;
+    }
+    if !is_zero(&room[unused_places..base]) {
+        return false;
+    }
+    if !bookings_sound(room, base, sizes, head.next_id, &mut reserved) {
+        return false;
+    }
+    if !is_zero(&room[unused_bookings..]) {
+        return false;
+    }
+    nothing_left(&reserved, used)
+}
+
+// The sizes come first: only where they are sound do the tables lie within the room.
+fn check(room: &[u8]) -> bool
+    ensures { λ r. ⌜ Decides (RoomFacts (now (room .entry))) r ⌝ }
+{
+    if room.len() < 56 {
+        return false;
+    }
+    let sizes = records::load_sizes(room);
+    let head = records::load_head(room);
+    if !sizes_sound(sizes, room.len()) {
+        return false;
+    }
+    if !head_sound(head) {
+        return false;
+    }
+    tables_sound(room, sizes, head)
+}
+
+// Whether lent memory is the room of a sound ledger: exactly that, for any bytes.
+pub fn is_sound(room: &[u8]) -> bool
+    ensures { λ r. ⌜ Decides (SoundRoom (now (room .entry))) r ⌝ }
+{
+    check(room)
+}
+
+pub enum Made {
+    Done,
+    UnsoundLedger,
+}
+
+// What stood there is overwritten whole: "room not in use is zero".
+fn clear(room: &mut [u8])
+    ensures { λ _. ⌜ now (room .exit) ≡ replicate (length (now (room .entry))) 0 ⌝ }
+{
+    let mut i = 0;
+    while i < room.len() {
+        room[i] = 0;
+        i += 1;
+    }
+}
+
+// "A fresh ledger has no names, next id 1, last version 0, baseline 0": over zeros only the sizes and the next id are left to write.
+pub fn make(room: &mut [u8], names: u64, reservations: u64) -> Made
+    ensures { λ r. ⌜ Makes names reservations (now (room .entry)) r (now (room .exit)) ⌝ }
+{
+    let sizes = Sizes {
+        names,
+        reservations,
+        used: 0,
+        live: 0,
+    };
+    if !sizes_sound(sizes, room.len()) {
+        return Made::UnsoundLedger;
+    }
+    clear(room);
+    records::store_sizes(room, sizes);
+    let head = Head {
+        next_id: 1,
+        last_version: 0,
+        baseline: 0,
+    };
+    records::store_head(room, head);
+    Made::Done
+}
