@@ -1,0 +1,123 @@
+-- `accounts::top_up` meets its contract.
+use mathlib.Core.Path.{_≡_, sym, _∙_, ap, subst}
+use mathlib.Core.List.{List, [], _∷_}
+use native.Mathlib.Omega.{arith}
+use borrow.Author.Needs.{needs}
+use lib.IntN.{ℤ, pos}
+use Rattle.rules.specs.AnswerNumbers.{InvalidAmount, MissingTenant, OverflowOfTopUp}
+use Rattle.rules.specs.AccountRules.{doneWith, topUpRule}
+use Rattle.rules.specs.Domain.{IsAmount, IsBytes}
+use Rattle.numbers.proofs.Bytes.{all-bytes}
+use Rattle.moves.specs.Moves.{accountOf, meaning, toppingUpMove, ToppingUpSound, SeatSound}
+use Rattle.moves.specs.declared.ToppingUp.{ToppingUp}
+use Rattle.moves.specs.declared.ToppingUp.the-variants.{Invalid, Missing, Overflow, Grown}
+use Rattle.moves.specs.declared.Seat.{Seat}
+use Rattle.contents.specs.Contents.{contentsOf, usedPlaces}
+use Rattle.contents.specs.Room.{Performs}
+use Rattle.accounts.proofs.Writes.{top-up-writes, amount-fits, seat-small}
+use Rattle.accounts.proofs.Performing.{OnName, Seen, found-in, searchable, seen-sound, ready, too-long, refuses, writes-held, toppingUp}
+use Rattle.accounts.proofs.top_up.Statement.{statement}
+use Rattle.accounts.proofs.top_up.Tie as tie
+
+fits : (c : tie.After-shared-slice-known) → IsBytes (c .before .before .args .part .now) × IsAmount (c .before .before .args .amount .0)
+fits c = let s = c .before .before in (all-bytes (s .args .part .now) (c .shared-slice-known .given), amount-fits (s .args .amount .0) (omega arith))
+
+abbrev op : (c : tie.After-shared-slice-known) → OnName (c .before .before .args .part .now)
+op c = toppingUp (c .before .before .args .part .now) (c .before .before .args .amount .0) (fits c .0) (fits c .1)
+
+returns : tie.Need-returns
+returns c L room = too-long (op (c .before)) L room (c .if1 .taken)
+
+find-requires : tie.Need-find-requires
+find-requires c κs = let s = c .before .before .before .before in searchable (s .args .room .now) (s .pre)
+
+seat-at-requires : tie.Need-seat-at-requires
+seat-at-requires c κs =
+    let d = c .before in
+    let s = d .before .before .before .before .before in
+    let xs = s .args .room .now in
+    (searchable xs (s .pre) .0, found-in (s .args .part .now) (usedPlaces (contentsOf xs)) (d .find .result) (d .find .ensures))
+
+abbrev entry : tie.After-seat-at → tie.After-shared-slice-known
+entry c = c .before .before .before .before .before
+
+seen : (c : tie.After-seat-at) → let s = entry c .before .before in Seen (s .args .room .now) (s .args .part .now) (c .before .before .find .result) (c .seat-at .result)
+seen c = record { sound = entry c .before .before .pre; short = c .before .before .before .before .if1 .left; found-is = c .before .before .find .ensures; seat-is = c .seat-at .ensures }
+
+-- what the rule decided is a move of the rules
+moves : (c : tie.After-top-up) (m : ToppingUp) → c .top-up .result ≡ m →
+    let s = entry (c .before) .before .before in
+    toppingUpMove (s .args .amount .0) m ≡ topUpRule (s .args .amount .0) (accountOf (c .before .seat-at .result)) (c .before .seat-at .result .limit)
+moves c m e = sym (ap (toppingUpMove (entry (c .before) .before .before .args .amount .0)) e) ∙ c .top-up .ensures .0
+
+top-up-requires : tie.Need-top-up-requires
+top-up-requires c κs = seen-sound (seen c)
+
+returns-2 : tie.Need-returns-2
+returns-2 c L room = let d = c .before .before in refuses (op (entry (d .before))) L room (seen (d .before)) InvalidAmount (moves d Invalid (c .enum-told .given .1))
+
+returns-3 : tie.Need-returns-3
+returns-3 c L room = let d = c .before .before in refuses (op (entry (d .before))) L room (seen (d .before)) MissingTenant (moves d Missing (c .enum-told2 .given .1))
+
+returns-4 : tie.Need-returns-4
+returns-4 c L room = let d = c .before .before in refuses (op (entry (d .before))) L room (seen (d .before)) OverflowOfTopUp (moves d Overflow (c .enum-told3 .given .1))
+
+-- ── the seat that is written ───────────────────────────────────────────────────────────────────
+
+abbrev grown : tie.After-decided → Seat
+grown t = t .decided .given .0 .0
+
+-- what a top-up carries
+abbrev carried : tie.After-decided → List ℤ
+carried t = entry (t .before .before .before) .before .before .args .amount .0 ∷ pos (grown t .initial) ∷ pos (grown t .remaining) ∷ []
+
+known : (t : tie.After-decided) → SeatSound (grown t)
+known t = subst ToppingUpSound (t .decided .given .1) (t .before .before .top-up .ensures .1)
+
+write-seat-requires : tie.Need-write-seat-requires
+write-seat-requires c κs =
+    let t = c .before .before in
+    let d = t .before .before in
+    ready (seen (d .before)) (op (entry (d .before))) (carried t) (grown t) (moves d (Grown (grown t)) (t .decided .given .1)) (known t)
+
+amount-requires : tie.Need-amount-requires
+amount-requires c κs = let t = c .before .before .before .before .before in seat-small (grown t) (known t) .0
+
+amount-requires-2 : tie.Need-amount-requires-2
+amount-requires-2 c κs = let t = c .before .before .before .before .before .before in seat-small (grown t) (known t) .1
+
+returns-5 : tie.Need-returns-5
+returns-5 c L room =
+    let w = c .before .before .before .before in
+    let t = w .before .before .before in
+    let d = t .before .before in
+    let k = d .before in
+    let z = entry k .before .before .args .amount .0 in
+    let move = moves d (Grown (grown t)) (t .decided .given .1) in
+    let has = top-up-writes z (accountOf (k .seat-at .result)) (k .seat-at .result .limit) (carried t) (meaning (grown t)) move .0 in
+    let done = writes-held (op (entry k)) L room (seen k) (carried t) (grown t) move (w .write-seat .last .0) (w .write-seat .result) (w .write-seat .ensures L room) has in
+    subst (λ zs. Performs (op (entry k) .carry) L (doneWith zs) (w .write-seat .last .0)) (sym (λ i. z ∷ c .before .amount .ensures i ∷ c .amount2 .ensures i ∷ [])) done
+
+pub top-up-spec : {M : Type 1} → statement M
+top-up-spec =
+    tie.close
+    (tie.spec
+    returns
+    find-requires
+    seat-at-requires
+    top-up-requires
+    (λ c. search needs)
+    (λ c. search needs)
+    (λ c. search needs)
+    (λ c. search needs)
+    write-seat-requires
+    amount-requires
+    amount-requires-2
+    (λ c. search needs)
+    returns-2
+    (λ c. search needs)
+    returns-3
+    (λ c. search needs)
+    returns-4
+    (λ c. search needs)
+    returns-5)
