@@ -1,0 +1,25 @@
+-- `reads::seek` meets its contract.
+use Rattle.contents.specs.Contents.{contentsOf, usedPlaces}
+use Rattle.reads.proofs.Seeking.{searchable, found-in, sought-long, sought-seat}
+use Rattle.reads.proofs.seek.Statement.{statement}
+use Rattle.reads.proofs.seek.Tie as tie
+
+returns : tie.Need-returns
+returns c L room = sought-long L (c .before .before .before .args .part .now) (c .if1 .taken)
+
+find-requires : tie.Need-find-requires
+find-requires c κs = let s = c .before .before .before in searchable (s .args .room .now) (s .pre)
+
+seat-at-requires : tie.Need-seat-at-requires
+seat-at-requires c κs =
+    let s = c .before .before .before .before in
+    let xs = s .args .room .now in
+    (searchable xs (s .pre) .0, found-in (s .args .part .now) (usedPlaces (contentsOf xs)) (c .find .result) (c .find .ensures))
+
+returns-2 : tie.Need-returns-2
+returns-2 c L room =
+    let s = c .before .before .before .before .before in
+    sought-seat L (s .args .part .now) (s .args .room .now) room (c .before .find .result) (c .seat-at .result) (c .before .before .if1 .left) (c .before .find .ensures) (c .seat-at .ensures)
+
+pub seek-spec : {M : Type 1} → statement M
+seek-spec = tie.close (tie.spec returns find-requires seat-at-requires returns-2)

@@ -1,0 +1,5 @@
+pub mod Fitting
+pub mod Performing
+pub mod Stepping
+pub mod Reserving
+pub mod Ending

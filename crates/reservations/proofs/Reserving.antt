@@ -1,0 +1,161 @@
+-- A reserve: what the code decides is the rule's move at the name's seat, and each answer performs it.
+use mathlib.Core.Path.{_≡_, refl, sym, _∙_, ap, ap₂, subst}
+use mathlib.Core.Bool.{true, false, cond}
+use mathlib.Core.List.{List, [], _∷_, _++_}
+use Prim.Native.Nat.{ℕ, _≤_, _<_}
+use native.Mathlib.Omega.{arith}
+use borrow.Author.Tests.{lt-ltb, le-ltb, eqb-false}
+use lib.Dec.{eqb}
+use lib.IntN.{ℤ, pos}
+use lib.ListN.{length}
+use Rattle.rules.specs.RoomAndSoundLedger.{M, Name, Seat as RulesSeat, Place as RulesPlace, Ledger, seatIn, hasAccount, holdsPlace, AddsUp}
+use Rattle.rules.specs.AnswerNumbers.{Amount, Identifier as TheIdentifier, Reply, done, NameTooLong, ReservationsFull, Insufficient, Refusal, replyOf, outcome, refused}
+use Rattle.rules.specs.AccountRules.{Move, refuse, book, reserveChecks, reserveRule, nextIdIsM, reserve, operate, onName, perform, drawn, withPlaces, withBookings, seated}
+use Rattle.rules.specs.Domain.{IsBytes, IsAmount}
+use Rattle.rules.proofs.Places.{seatIn-all, account-holds}
+use Rattle.moves.specs.Moves.{accountOf, meaning, keptSeat, SeatSound, reservingMove, ReservingSound}
+use Rattle.moves.specs.declared.Seat.{Seat}
+use Rattle.moves.specs.declared.Reserving.{Reserving}
+use Rattle.moves.specs.declared.Reserving.the-variants as reserving
+use Rattle.records.specs.declared.Place.{Place}
+use Rattle.records.specs.declared.Head.{Head}
+use Rattle.records.specs.Records.{headOf}
+use Rattle.contents.specs.Contents.{contentsOf, usedPlaces, placeOfName, withHead, appendedBooking}
+use Rattle.contents.specs.Room.{placeNumber, headIn, contentsIn, IsRoom, Performs}
+use Rattle.contents.specs.Seats.{FoundIn, seatFound, withSeat}
+use Rattle.contents.specs.declared.Found.{Found}
+use Rattle.contents.specs.declared.Found.the-variants.{At, Absent}
+use Rattle.contents.proofs.Numbers.{found-number, number-below}
+use Rattle.contents.proofs.Steps.{id-drawn}
+use Rattle.contents.proofs.Seating.{seat-found, kept-account, kept-limit, seat-sound}
+use Rattle.contents.proofs.Settling.{booked-contents}
+use Rattle.lookup.proofs.Places.{noPlace, name-found}
+use Rattle.lookup.proofs.SoundRoom.{places-are}
+use Rattle.reservations.specs.Answers.{reservedReply}
+use Rattle.reservations.specs.Steps.{drawnHead, Booked, granted, full}
+use Rattle.reservations.specs.declared.Reserved.{Reserved}
+use Rattle.reservations.proofs.Fitting.{MoveFits, reserve-fits}
+use Rattle.reservations.proofs.Performing.{stays, becomes}
+
+-- what a look-up answers about the places that it searched
+pub found-in : (a : Name) (ps : List Place) (f : Found) → f ≡ placeOfName a ps → FoundIn f ps
+found-in a ps (At i) e = name-found a noPlace ps i (sym e) .0
+found-in a ps Absent e = tt
+
+-- what a reserve is decided to be: the ledger's operation is that move
+pub record Decided (L : Ledger) (a : Name) (z : ℤ) (r : Reserving) : Type 0 where
+  pub move : operate L (reserve a z) ≡ perform L a (reservingMove z r)
+  pub fits : MoveFits (nextIdIsM L) (seatIn a (L .places) .account) (reservingMove z r)
+  pub sound : ReservingSound r
+
+-- the ledger after a reserve that is granted
+abbrev bookedLedger : Ledger → Name → RulesSeat → ℕ → Ledger
+bookedLedger L a s cost = withBookings (withPlaces (drawn L) (seated a s (L .places))) (L .bookings ++ record { id = L .nextId; name = a; amount = cost } ∷ [])
+
+abbrev grantedReply : ℤ → ℕ → Reply
+grantedReply remaining id = done (Amount remaining ∷ TheIdentifier id ∷ [])
+
+module _ (L : Ledger) (a : Name) (remaining : ℕ) (s : RulesSeat) (cost : ℕ) where
+  performed-booking : length (L .bookings) < L .R → perform L a (book remaining s cost) ≡ outcome (grantedReply (pos remaining) (L .nextId)) (bookedLedger L a s cost)
+  unfolding perform
+  performed-booking left = rw (lt-ltb (length (L .bookings)) (L .R) left)
+
+  performed-full : L .R ≤ length (L .bookings) → perform L a (book remaining s cost) ≡ refused ReservationsFull L
+  unfolding perform
+  performed-full all = rw (le-ltb (length (L .bookings)) (L .R) all)
+
+module _ (xs : List ℕ) (L : Ledger) (room : IsRoom xs L) (a : Name) where
+  abbrev ps : List RulesPlace
+  ps = L .places
+
+  abbrev searched : List Place
+  searched = usedPlaces (contentsOf xs)
+
+  -- the head that is loaded is the ledger's
+  pub head-is : (h : Head) → h ≡ headOf xs → h ≡ headIn L
+  unfolding contentsOf contentsIn
+  head-is h e = e ∙ ap (λ c. c .head) (room .holds)
+
+  -- the seat that is found is the name's, in its one form
+  pub seat-is : (f : Found) → f ≡ placeOfName a searched → (s : Seat) → s ≡ seatFound f searched → s ≡ keptSeat (seatIn a ps)
+  seat-is f e s q = q ∙ ap (λ g. seatFound g searched) e ∙ ap (λ qs. seatFound (placeOfName a qs) qs) (places-are xs L room) ∙ seat-found a ps
+
+  pub found-sound : (f : Found) → f ≡ placeOfName a searched → (s : Seat) → s ≡ seatFound f searched → SeatSound s
+  found-sound f e s q = subst SeatSound (sym (seat-is f e s q)) (seat-sound L (room .sound) a)
+
+  -- the next id is below M where it is not M
+  pub next-below : (h : Head) → h ≡ headOf xs → nextIdIsM L ≡ false → h .«next_id» < M
+  next-below h e f =
+      let q : h .«next_id» ≡ L .nextId = ap (λ (g : Head). g .«next_id») (head-is h e) in
+      let n : L .nextId ≡ M → ⊥ = eqb-false (L .nextId) M f in
+      omega (arith, room .sound .next-id)
+
+  -- a name with an account is found in its place
+  module _ (has : hasAccount (seatIn a ps .account) ≡ true) where
+    holds : holdsPlace a ps ≡ true
+    holds = account-holds a ps has
+
+    pub found-at : placeOfName a searched ≡ At (placeNumber a ps)
+    found-at = ap (placeOfName a) (places-are xs L room) ∙ found-number a ps ∙ ap (λ b. cond b (At (placeNumber a ps)) Absent) holds
+
+    pub number-is : (i : ℕ) → At i ≡ placeOfName a searched → i ≡ placeNumber a ps
+    number-is i e = let p : At i ≡ At (placeNumber a ps) = e ∙ found-at in cc
+
+    pub place-in-use : (i : ℕ) → At i ≡ placeOfName a searched → i < contentsOf xs .sizes .used
+    unfolding contentsIn
+    place-in-use i e =
+        let n : contentsOf xs .sizes .used ≡ length ps = ap (λ c. c .sizes .used) (room .holds) in
+        omega (arith, number-is i e, number-below a ps holds)
+
+  module _ (z : ℤ) where
+    pub too-long : 24 < length a → Performs (λ K. operate K (reserve a z)) L (replyOf NameTooLong) xs
+    too-long long = stays (reserve a z) L xs room _ (replyOf NameTooLong) (unfold operate onName perform in rw (lt-ltb 24 (length a) long)) refl
+
+    abbrev ruleAt : Seat → ℕ → Move
+    ruleAt s n = reserveRule (eqb n M) (s .limit) (reserveChecks z (accountOf s) (s .limit))
+
+    pub decides : length a ≤ 24 → (f : Found) → f ≡ placeOfName a searched → (s : Seat) → s ≡ seatFound f searched → (h : Head) → h ≡ headOf xs
+        → (r : Reserving) → reservingMove z r ≡ ruleAt s (h .«next_id») → ReservingSound r → Decided L a z r
+    decides short f e s q h k r m sound =
+        let own : RulesSeat = seatIn a ps in
+        let rule : Move = reserveRule (nextIdIsM L) (own .limit) (reserveChecks z (own .account) (own .limit)) in
+        let is : reservingMove z r ≡ rule =
+        m ∙ ap (λ t. ruleAt t (h .«next_id»)) (seat-is f e s q) ∙ ap (λ (g : Head). ruleAt (keptSeat own) (g .«next_id»)) (head-is h k)
+        ∙ ap₂ (λ l c. reserveRule (nextIdIsM L) l (reserveChecks z c l)) (kept-limit own) (kept-account own) in
+        let named : operate L (reserve a z) ≡ perform L a rule = unfold operate onName in rw (le-ltb 24 (length a) short) in
+        record {
+          move = named ∙ ap (perform L a) (sym is);
+          fits = subst (MoveFits (nextIdIsM L) (own .account)) (sym is)
+              (reserve-fits (nextIdIsM L) z (own .account) (own .limit) (seatIn-all (λ t. AddsUp (t .account)) ps tt (room .sound .accounts-add-up) a) (seatIn-all (λ t. t .limit ≤ M) ps (omega arith) (room .sound .limits) a));
+          sound = sound;
+        }
+
+    -- a refusal
+    pub refuses : (e : Refusal) (r : Reserving) → Decided L a z r → reservingMove z r ≡ refuse e → (t : Reply) → t ≡ replyOf e → Performs (λ K. operate K (reserve a z)) L t xs
+    refuses e r d m t q = stays (reserve a z) L xs room t (replyOf e) (d .move ∙ ap (perform L a) m ∙ (unfold perform in refl)) q
+
+    module _ (bytes : IsBytes a) (amount : IsAmount z) (h : Head) (loaded : h ≡ headOf xs) where
+      -- an id drawn and lost
+      pub loses : (remaining cost : ℕ) → Decided L a z (reserving.Insufficient remaining cost) → (t : Reply) → t ≡ replyOf (Insufficient remaining (pos cost))
+          → (ys : List ℕ) → length ys ≡ length xs → contentsOf ys ≡ withHead (drawnHead h) (contentsOf xs) → Performs (λ K. operate K (reserve a z)) L t ys
+      loses remaining cost d t q ys l k =
+          becomes (reserve a z) L xs room (bytes, amount) t (replyOf (Insufficient remaining (pos cost))) (drawn L) (d .move ∙ (unfold perform in refl)) q refl refl ys l
+          (k ∙ ap₂ (λ g c. withHead (drawnHead g) c) (head-is h loaded) (room .holds) ∙ id-drawn L)
+
+      pub books : (s : Seat) (cost : ℕ) → Decided L a z (reserving.Booked s cost) → (i : ℕ) → At i ≡ placeOfName a searched → {r : Reserved} {ys : List ℕ} → Booked i s cost h xs r ys → Performs (λ K. operate K (reserve a z)) L (reservedReply r) ys
+      unfolding contentsIn
+      books s cost d i e (granted remaining id ys left p q l k) =
+          let n : i ≡ placeNumber a ps = number-is (d .fits .1) i e in
+          let g : h ≡ headIn L = head-is h loaded in
+          let live : contentsOf xs .sizes .live ≡ length (L .bookings) = ap (λ c. c .sizes .live) (room .holds) in
+          let most : contentsOf xs .sizes .reservations ≡ L .R = ap (λ c. c .sizes .reservations) (room .holds) in
+          let fits : length (L .bookings) < L .R = omega arith in
+          let stepped : withHead (drawnHead h) (appendedBooking (record { id = h .«next_id»; amount = cost; owner = i }) (withSeat i s (contentsOf xs)))
+          ≡ withHead (headIn (drawn L)) (appendedBooking (record { id = L .nextId; amount = cost; owner = placeNumber a ps }) (withSeat (placeNumber a ps) s (contentsIn L)))
+          = (λ j. withHead (drawnHead (g j)) (appendedBooking (record { id = g j .«next_id»; amount = cost; owner = n j }) (withSeat (n j) s (room .holds j)))) in
+          becomes (reserve a z) L xs room (bytes, amount) _ (grantedReply (pos (s .remaining)) (L .nextId)) (bookedLedger L a (meaning s) cost) (d .move ∙ performed-booking L a (s .remaining) (meaning s) cost fits) (ap₂ grantedReply p (q ∙ ap (λ (f : Head). f .«next_id») g)) refl refl ys l
+          (k ∙ stepped ∙ booked-contents L (room .sound) a s (d .sound) (d .fits .2) (holds (d .fits .1)) cost fits)
+      books s cost d i e (full n) =
+          let live : contentsOf xs .sizes .live ≡ length (L .bookings) = ap (λ c. c .sizes .live) (room .holds) in
+          let most : contentsOf xs .sizes .reservations ≡ L .R = ap (λ c. c .sizes .reservations) (room .holds) in
+          stays (reserve a z) L xs room _ (replyOf ReservationsFull) (d .move ∙ performed-full L a (s .remaining) (meaning s) cost (omega arith)) refl

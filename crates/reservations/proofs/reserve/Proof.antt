@@ -1,0 +1,225 @@
+-- `reservations::reserve` meets its contract.
+use mathlib.Core.Path.{_≡_, refl, sym, ap, ap₂, subst, _∙_}
+use mathlib.Core.Bool.{false}
+use mathlib.Core.List.{List, [], _∷_}
+use Prim.Native.Nat.{ℕ, _<_}
+use native.Mathlib.Omega.{arith}
+use borrow.Author.Needs.{needs}
+use lib.IntN.{ℤ}
+use Rattle.rules.specs.RoomAndSoundLedger.{M, Name, Ledger}
+use Rattle.rules.specs.AnswerNumbers.{Amount, reply, MissingTenant, OverflowOfReserve, ExposureLimitExceeded, Insufficient}
+use Rattle.rules.specs.AccountRules.{nextIdIsM}
+use Rattle.rules.specs.Domain.{IsBytes, IsAmount}
+use Rattle.numbers.proofs.Bytes.{all-bytes}
+use Rattle.moves.specs.declared.Reserving.{Reserving}
+use Rattle.moves.specs.declared.Reserving.the-variants as reserving
+use Rattle.contents.specs.Contents.{contentsOf, Sized, usedPlaces, placeOfName}
+use Rattle.contents.specs.Room.{IsRoom}
+use Rattle.contents.specs.declared.Found.the-variants.{At}
+use Rattle.lookup.proofs.SoundRoom.{sized, names-short}
+use Rattle.reservations.proofs.Fitting.{seat-small}
+use Rattle.reservations.proofs.Performing.{amount-fits}
+use Rattle.reservations.proofs.Reserving.{Decided, found-in, found-sound, too-long, decides, refuses, next-below, loses, found-at, place-in-use, books}
+use Rattle.reservations.proofs.reserve.Statement.{statement}
+use Rattle.reservations.proofs.reserve.Tie as tie
+
+-- ── at the entry ───────────────────────────────────────────────────────────────────────────────
+
+abbrev room : tie.Start → List ℕ
+room s = s .args .room .now
+
+abbrev name : tie.Start → Name
+name s = s .args .part .now
+
+abbrev cost : tie.Start → ℤ
+cost s = s .args .cost .0
+
+abbrev ledger : tie.Start → Ledger
+ledger s = s .pre .ledger
+
+is-room : (s : tie.Start) → IsRoom (room s) (ledger s)
+is-room s = s .pre .is-room
+
+room-sized : (s : tie.Start) → Sized (room s)
+room-sized s = sized (room s) (ledger s) (is-room s)
+
+cost-fits : (s : tie.Start) → IsAmount (cost s)
+cost-fits s = amount-fits (cost s) (omega arith)
+
+returns : tie.Need-returns
+returns c L r = let s = c .before .before .before in too-long (room s) L r (name s) (cost s) (c .if1 .taken)
+
+find-requires : tie.Need-find-requires
+find-requires c κs = let s = c .before .before .before .before in (room-sized s, names-short (room s) (ledger s) (is-room s))
+
+seat-at-requires : tie.Need-seat-at-requires
+seat-at-requires c κs =
+    let s = c .before .before .before .before .before .before in
+    (room-sized s, found-in (name s) (usedPlaces (contentsOf (room s))) (c .before .find .result) (c .before .find .ensures))
+
+load-head-requires : tie.Need-load-head-requires
+load-head-requires c κs = omega (arith, room-sized (c .before .before .before .before .before .before .before .before) .size)
+
+reserve-requires : tie.Need-reserve-requires
+reserve-requires c κs =
+    let s = c .before .before .before .before .before .before .before .before .before in
+    found-sound (room s) (ledger s) (is-room s) (name s) (c .before .before .before .before .find .result) (c .before .before .before .before .find .ensures) (c .before .before .seat-at .result) (c .before .before .seat-at .ensures)
+
+-- ── at the decision ────────────────────────────────────────────────────────────────────────────
+
+abbrev start : tie.After-reserve → tie.Start
+start c = c .before .before .before .before .before .before .before .before .before .before
+
+name-bytes : (c : tie.After-reserve) → IsBytes (name (start c))
+name-bytes c = all-bytes (name (start c)) (c .before .before .before .before .before .before .before .before .shared-slice-known .given)
+
+decided : (c : tie.After-reserve) (L : Ledger) → IsRoom (room (start c)) L → Decided L (name (start c)) (cost (start c)) (c .reserve .result)
+decided c L r =
+    let s = start c in
+    let found = c .before .before .before .before .before .find in
+    let seat = c .before .before .before .seat-at in
+    decides (room s) L r (name s) (cost s) (c .before .before .before .before .before .before .before .if1 .left) (found .result) (found .ensures) (seat .result) (seat .ensures) (c .before .load-head .result) (c .before .load-head .ensures) (c .reserve .result)
+    (c .reserve .ensures .0) (c .reserve .ensures .1)
+
+-- whatever ledger the room holds, it is decided to be this
+abbrev Decides : tie.After-reserve → Reserving → Type 0
+Decides c r = (L : Ledger) → IsRoom (room (start c)) L → Decided L (name (start c)) (cost (start c)) r
+
+told : (c : tie.After-reserve) (r : Reserving) → c .reserve .result ≡ r → Decides c r
+told c r e L k = subst (Decided L (name (start c)) (cost (start c))) e (decided c L k)
+
+next-id-below : (c : tie.After-reserve) → nextIdIsM (ledger (start c)) ≡ false → c .before .load-head .result .«next_id» < M
+next-id-below c e = let s = start c in next-below (room s) (ledger s) (is-room s) (name s) (c .before .load-head .result) (c .before .load-head .ensures) e
+
+-- ── the refusals ───────────────────────────────────────────────────────────────────────────────
+
+returns-3 : tie.Need-returns-3
+returns-3 c L r =
+    let d = c .before .before .before in
+    let s = start d in
+    refuses (room s) L r (name s) (cost s) (Insufficient 0 (cost s)) reserving.NotPositive (told d _ (c .before .enum-told .given .1) L r) refl _
+    (ap (λ v. reply 6 (Amount v ∷ Amount (cost s) ∷ [])) (c .amount .ensures))
+
+returns-4 : tie.Need-returns-4
+returns-4 c L r =
+    let d = c .before .before in
+    let s = start d in
+    refuses (room s) L r (name s) (cost s) MissingTenant reserving.Missing (told d _ (c .enum-told2 .given .1) L r) refl _ refl
+
+overflows : (c : tie.After-known-told) → Decides (c .before .before .before) (reserving.Overflow (c .before .decided .given .0 .0))
+overflows c L r = told (c .before .before .before) _ (c .before .decided .given .1) L r
+
+returns-5 : tie.Need-returns-5
+returns-5 c L r =
+    let s = start (c .before .before .before .before) in
+    refuses (room s) L r (name s) (cost s) (OverflowOfReserve _) _ (overflows (c .before) L r) refl _ (ap (λ v. reply 4 (Amount v ∷ [])) (c .amount2 .ensures))
+
+exposed : (c : tie.After-known-told2) → Decides (c .before .before .before) (reserving.Exposed (c .before .decided2 .given .0 .0) (c .before .decided2 .given .0 .1 .0))
+exposed c L r = told (c .before .before .before) _ (c .before .decided2 .given .1) L r
+
+returns-6 : tie.Need-returns-6
+returns-6 c L r =
+    let s = start (c .before .before .before .before .before) in
+    refuses (room s) L r (name s) (cost s) (ExposureLimitExceeded _ _) _ (exposed (c .before .before) L r) refl _
+    (ap₂ (λ v w. reply 5 (Amount v ∷ Amount w ∷ [])) (c .before .amount3 .ensures) (c .amount4 .ensures))
+
+-- ── an id drawn ────────────────────────────────────────────────────────────────────────────────
+
+insufficient : (c : tie.After-known-told3) → Decides (c .before .before .before) (reserving.Insufficient (c .before .decided3 .given .0 .0) (c .before .decided3 .given .0 .1 .0))
+insufficient c L r = told (c .before .before .before) _ (c .before .decided3 .given .1) L r
+
+draw-requires : tie.Need-draw-requires
+draw-requires c κs =
+    let d = c .before .before .before .before in
+    let s = start d in
+    (room-sized s, next-id-below d (insufficient (c .before) (ledger s) (is-room s) .fits .1))
+
+returns-7 : tie.Need-returns-7
+returns-7 c L r =
+    let k = c .before .before .before .before .before .before in
+    let d = k .before .before .before in
+    let s = start d in
+    let drew = c .before .before .before .before .draw in
+    loses (room s) L r (name s) (cost s) (name-bytes d) (cost-fits s) (d .before .load-head .result) (d .before .load-head .ensures) _ _ (insufficient k L r) _
+    (ap₂ (λ v w. reply 6 (Amount v ∷ Amount w ∷ [])) (c .before .amount5 .ensures) (c .amount6 .ensures)) (drew .last .0) (drew .ensures .0) (drew .ensures .1)
+
+-- ── a booking ──────────────────────────────────────────────────────────────────────────────────
+
+booked : (c : tie.After-known-told4) → Decides (c .before .before .before) (reserving.Booked (c .before .decided4 .given .0 .0) (c .before .decided4 .given .0 .1 .0))
+booked c L r = told (c .before .before .before) _ (c .before .decided4 .given .1) L r
+
+-- the place of a name with an account is found
+returns-2 : tie.Need-returns-2
+returns-2 c L r =
+    let k = c .before .before in
+    let d = k .before .before .before in
+    let s = start d in
+    let place = found-at (room s) L r (name s) (booked k L r .fits .1) in
+    let absent = d .before .before .before .before .before .find .ensures in
+    let told-absent = c .enum-told3 .given .1 in
+    absurd (let z : _≡_ {A = ℕ} 0 1 = cc in omega arith)
+
+-- the place that was found
+at : (c : tie.After-found) → let d = c .before .before .before .before .before in At (c .found .given .0 .0) ≡ placeOfName (name (start d)) (usedPlaces (contentsOf (room (start d))))
+at c = sym (c .found .given .1) ∙ c .before .before .before .before .before .before .before .before .before .before .find .ensures
+
+book-requires : tie.Need-book-requires
+book-requires c κs =
+    let f = c .before .before in
+    let k = f .before .before in
+    let d = k .before .before .before in
+    let s = start d in
+    let b = booked k (ledger s) (is-room s) in (
+      room-sized s,
+      place-in-use (room s) (ledger s) (is-room s) (name s) (b .fits .1) _ (at f),
+      seat-small _ (b .sound) .0,
+      next-id-below d (b .fits .0),
+    )
+
+returns-8 : tie.Need-returns-8
+returns-8 c L r =
+    let f = c .before .before .before .before .before in
+    let k = f .before .before in
+    let d = k .before .before .before in
+    let s = start d in
+    books (room s) L r (name s) (cost s) (name-bytes d) (cost-fits s) (d .before .load-head .result) (d .before .load-head .ensures) _ _ (booked k L r) _ (at f) (c .before .before .book .ensures)
+
+pub reserve-spec : {M : Type 1} → statement M
+reserve-spec =
+    tie.close
+    (tie.spec
+    returns
+    find-requires
+    seat-at-requires
+    load-head-requires
+    reserve-requires
+    (λ c. search needs)
+    (λ c κs. search needs)
+    (λ c. search needs)
+    (λ c. search needs)
+    (λ c κs. let s = start (c .before .before .before) in overflows c (ledger s) (is-room s) .fits .0)
+    (λ c. search needs)
+    (λ c κs. let s = start (c .before .before .before) in exposed c (ledger s) (is-room s) .fits .0)
+    (λ c κs. let s = start (c .before .before .before .before) in exposed (c .before) (ledger s) (is-room s) .fits .1 .0)
+    (λ c. search needs)
+    draw-requires
+    (λ c κs. let s = start (c .before .before .before .before .before .before .before) in insufficient (c .before .before .before .before) (ledger s) (is-room s) .fits .0 .0)
+    (λ c κs. let s = start (c .before .before .before .before .before .before .before .before) in insufficient (c .before .before .before .before .before) (ledger s) (is-room s) .fits .0 .1 .0)
+    (λ c. search needs)
+    (λ c. search needs)
+    (λ c. search needs)
+    (λ c. search needs)
+    returns-2
+    book-requires
+    (λ c. search needs)
+    returns-3
+    (λ c. search needs)
+    returns-4
+    (λ c. search needs)
+    returns-5
+    (λ c. search needs)
+    returns-6
+    (λ c. search needs)
+    returns-7
+    (λ c. search needs)
+    returns-8)

@@ -1,0 +1,207 @@
+// Reserve, commit and release on a ledger already known to be sound, which they leave sound.
+use contents::Found;
+use moves::Committing;
+use moves::Releasing;
+use moves::Reserving;
+use moves::Seat;
+use numbers::Identifier;
+use numbers::Microcents;
+use numbers::Sign;
+use records::Booking;
+use records::Head;
+ghost use mathlib.Core.Path.{_≡_};
+ghost use Prim.Native.Nat.{_≤_, _<_};
+ghost use lib.ListN.{length};
+ghost use Rattle.rules.specs.RoomAndSoundLedger.{M, Ledger};
+ghost use Rattle.rules.specs.AnswerNumbers.{replyOf};
+ghost use Rattle.rules.specs.AccountRules.{reserve, commit, release, commitOfNone, operate};
+ghost use Rattle.contents.specs.Contents.{contentsOf, Sized, withHead, removedBooking};
+ghost use Rattle.contents.specs.Room.{SoundRoom, IsRoom, Performs};
+ghost use Rattle.contents.specs.Seats.{withSeat};
+ghost use Rattle.reservations.specs.Answers.{reservedReply, committedReply, releasedReply};
+ghost use Rattle.reservations.specs.Steps.{drawnHead, Booked, dueAt};
+
+// UnsoundLedger is given by the operations on any memory that stand above these.
+pub enum Reserved {
+    Granted(Microcents, Identifier),
+    Insufficient(Microcents, Microcents),
+    MissingTenant,
+    Overflow(Microcents),
+    ExposureLimitExceeded(Microcents, Microcents),
+    NameTooLong,
+    ReservationsFull,
+    UnsoundLedger,
+}
+
+pub enum Committed {
+    Done(Microcents, Microcents),
+    InvalidAmount,
+    MissingReservation,
+    MissingTenant,
+    Overflow(Microcents),
+    Overrun(Microcents),
+    UnsoundLedger,
+}
+
+pub enum Released {
+    Done(Microcents, Microcents),
+    MissingReservation,
+    MissingTenant,
+    UnsoundLedger,
+}
+
+// A live reservation that is to be settled: its amount, the number of its airline's place, and the seat there.
+struct Due {
+    amount: u64,
+    owner: usize,
+    seat: Seat,
+}
+
+// An id is drawn: next id grows by 1.
+fn draw(room: &mut [u8], head: Head)
+    requires { ⌜ Sized (now room) × (head .«next_id» < M) ⌝ }
+    ensures { λ _. ⌜ (length (now (room .exit)) ≡ length (now (room .entry))) × (contentsOf (now (room .exit)) ≡ withHead (drawnHead head) (contentsOf (now (room .entry)))) ⌝ }
+{
+    let drawn = Head {
+        next_id: head.next_id + 1,
+        last_version: head.last_version,
+        baseline: head.baseline,
+    };
+    tables::put_head(room, drawn);
+}
+
+// "R live gives 21, no id drawn; else the id drawn is the old next id."
+fn book(room: &mut [u8], i: usize, seat: Seat, cost: u64, head: Head) -> Reserved
+    requires { ⌜ Sized (now room) × (i < contentsOf (now room) .sizes .used) × (seat .remaining ≤ M) × (head .«next_id» < M) ⌝ }
+    ensures { λ r. ⌜ Booked i seat cost head (now (room .entry)) r (now (room .exit)) ⌝ }
+{
+    let sizes = records::load_sizes(room);
+    if sizes.live == sizes.reservations {
+        return Reserved::ReservationsFull;
+    }
+    seats::put_seat(room, i, seat);
+    tables::append_booking(
+        room,
+        Booking {
+            id: head.next_id,
+            amount: cost,
+            owner: i as u64,
+        },
+    );
+    draw(room, head);
+    Reserved::Granted(numbers::amount(seat.remaining), Identifier(head.next_id))
+}
+
+pub fn reserve(room: &mut [u8], part: &[u8], cost: Microcents) -> Reserved
+    requires { ⌜ SoundRoom (now room) ⌝ }
+    ensures { λ r. ⌜ ((L : Ledger) → IsRoom (now (room .entry)) L → Performs (λ K. operate K (reserve (now (part .entry)) (cost .0))) L (reservedReply r) (now (room .exit))) ⌝ }
+{
+    if 24 < part.len() {
+        return Reserved::NameTooLong;
+    }
+    let found = lookup::find(room, part);
+    let seat = seats::seat_at(room, found);
+    let head = records::load_head(room);
+    let decided = moves::reserve(seat, cost, head.next_id);
+    match decided {
+        Reserving::NotPositive => Reserved::Insufficient(numbers::amount(0), cost),
+        Reserving::Missing => Reserved::MissingTenant,
+        Reserving::Overflow(reserved) => Reserved::Overflow(numbers::amount(reserved)),
+        Reserving::Exposed(reserved, limit) => Reserved::ExposureLimitExceeded(
+            numbers::amount(reserved),
+            numbers::amount(limit),
+        ),
+        Reserving::Insufficient(remaining, asked) => {
+            draw(room, head);
+            Reserved::Insufficient(numbers::amount(remaining), numbers::amount(asked))
+        }
+        Reserving::Booked(booked, asked) => {
+            let Found::At(i) = found else {
+                return Reserved::MissingTenant;
+            };
+            book(room, i, booked, asked, head)
+        }
+    }
+}
+
+// What a settlement asks of the reservation at j.
+fn due_at(room: &[u8], j: usize) -> Due
+    requires { ⌜ SoundRoom (now room) × (j < contentsOf (now room) .sizes .live) ⌝ }
+    ensures { λ r. ⌜ ((L : Ledger) → IsRoom (now (room .entry)) L → r ≡ dueAt L j) ⌝ }
+{
+    let sizes = records::load_sizes(room);
+    let base = 56 + 66 * (sizes.names as usize);
+    let booking = records::load_booking(room, base, j);
+    let owner = booking.owner as usize;
+    let seat = seats::seat_at(room, Found::At(owner));
+    Due {
+        amount: booking.amount,
+        owner,
+        seat,
+    }
+}
+
+// The reservation at j ends, and its airline's seat is now this one.
+fn end(room: &mut [u8], j: usize, owner: usize, seat: Seat)
+    requires { ⌜ Sized (now room) × (owner < contentsOf (now room) .sizes .used) × (j < contentsOf (now room) .sizes .live) ⌝ }
+    ensures { λ _. ⌜ (length (now (room .exit)) ≡ length (now (room .entry))) × (contentsOf (now (room .exit)) ≡ removedBooking j (withSeat owner seat (contentsOf (now (room .entry))))) ⌝ }
+{
+    seats::put_seat(room, owner, seat);
+    tables::remove_booking(room, j);
+}
+
+pub fn commit(room: &mut [u8], id: Identifier, actual: Microcents) -> Committed
+    requires { ⌜ SoundRoom (now room) ⌝ }
+    ensures { λ r. ⌜ ((L : Ledger) → IsRoom (now (room .entry)) L → Performs (λ K. operate K (commit (id .0) (actual .0))) L (committedReply r) (now (room .exit))) ⌝ }
+{
+    let number = id.0;
+    let Found::At(j) = lookup::find_booking(room, number) else {
+        return missing_commit(actual);
+    };
+    let due = due_at(room, j);
+    let seat = due.seat;
+    let decided = moves::commit(seat, due.amount, actual);
+    match decided {
+        Committing::Invalid => Committed::InvalidAmount,
+        Committing::Missing => Committed::MissingTenant,
+        Committing::Overflow(remaining) => Committed::Overflow(numbers::amount(remaining)),
+        Committing::Overrun(remaining) => Committed::Overrun(numbers::amount(remaining)),
+        Committing::Ended(ended) => {
+            end(room, j, due.owner, ended);
+            Committed::Done(numbers::amount(ended.remaining), actual)
+        }
+    }
+}
+
+// "actual below 0 gives 2; 7"
+fn missing_commit(actual: Microcents) -> Committed
+    ensures { λ r. ⌜ committedReply r ≡ replyOf (commitOfNone (actual .0)) ⌝ }
+{
+    let Sign::Natural(_) = numbers::sign_of(actual) else {
+        return Committed::InvalidAmount;
+    };
+    Committed::MissingReservation
+}
+
+pub fn release(room: &mut [u8], id: Identifier) -> Released
+    requires { ⌜ SoundRoom (now room) ⌝ }
+    ensures { λ r. ⌜ ((L : Ledger) → IsRoom (now (room .entry)) L → Performs (λ K. operate K (release (id .0))) L (releasedReply r) (now (room .exit))) ⌝ }
+{
+    let number = id.0;
+    let Found::At(j) = lookup::find_booking(room, number) else {
+        return Released::MissingReservation;
+    };
+    let due = due_at(room, j);
+    let seat = due.seat;
+    let decided = moves::release(seat, due.amount);
+    match decided {
+        Releasing::Missing => Released::MissingTenant,
+        Releasing::Returned(returned) => {
+            end(room, j, due.owner, returned);
+            Released::Done(
+                numbers::amount(returned.remaining),
+                numbers::amount(due.amount),
+            )
+        }
+    }
+}
