@@ -1,20 +1,51 @@
--- What the contracts of the operations leave open: nothing. On a sound room the answer and every byte at exit are fixed, and where the rules leave the
--- ledger as it was, as every refusal but 6 does, no byte changes.
-use mathlib.Core.Path.{_≡_, sym, _∙_, subst}
+-- What the contracts leave open: nothing. For any memory, the answer and every byte at exit are fixed; and where the rules leave the ledger as it was, as
+-- every refusal but 6 does, no byte changes.
+use mathlib.Core.Path.{_≡_, sym, _∙_, subst, ap}
+use mathlib.Core.Bool.{Bool}
 use mathlib.Core.List.{List}
+use mathlib.Core.Option.{some}
 use Prim.Native.Nat.{ℕ}
+use lib.ListN.{length}
 use Rattle.rules.specs.Lists.{All}
-use Rattle.rules.specs.RoomAndSoundLedger.{Ledger, IsByte}
+use Rattle.rules.specs.RoomAndSoundLedger.{Ledger, IsByte, Sound, made, fresh}
 use Rattle.rules.specs.AnswerNumbers.{Reply, Outcome}
-use Rattle.contents.specs.Room.{IsRoom, Answers}
+use Rattle.rules.proofs.SnapshotSoundness.{fresh-sound}
+use Rattle.rules.proofs.Tests.{by-bool}
+use Rattle.contents.specs.Contents.{roomSize}
+use Rattle.contents.specs.Room.{IsRoom, SoundRoom, Answers}
 use Rattle.contents.proofs.Decoding.{canonical}
+use Rattle.soundness.specs.Facts.{Decides}
+use Rattle.soundness.specs.declared.Made.{Made}
+use Rattle.soundness.specs.Making.{Makes}
+use Rattle.soundness.proofs.Fresh.{made-some}
+use Rattle.ledger.specs.Tells.{Tells}
 
-module _ (f : Ledger → Outcome) (before : List ℕ) (L : Ledger) (room : IsRoom before L) (r : Reply) (after : List ℕ) (bytes : All IsByte after) (answers : Answers f before r after) where
-  pub same-answer : (s : Reply) (other : List ℕ) → All IsByte other → Answers f before s other → (r ≡ s) × (after ≡ other)
-  same-answer s other other-bytes also =
-      let one = answers .sound-room L room in
-      let two = also .sound-room L room in
-      (one .answer ∙ sym (two .answer), canonical after other (f L .ledger) bytes other-bytes (one .room) (two .room))
+module _ (before : List ℕ) where
+  -- the memory is the room of a sound ledger or of none, as `soundness::is_sound` answers of any memory
+  by-soundness : (P : Type 0) (b : Bool) → Decides (SoundRoom before) b → ((L : Ledger) → IsRoom before L → P) → (((L : Ledger) → IsRoom before L → ⊥) → P) → P
+  by-soundness P b decides sound other =
+      by-bool (λ _. P) b (λ e. let s = decides .holds e in sound (s .ledger) (s .is-room)) (λ e. other (λ L room. decides .fails e (record { ledger = L; is-room = room })))
 
-  pub same-bytes : All IsByte before → f L .ledger ≡ L → after ≡ before
-  same-bytes before-bytes kept = canonical after before L bytes before-bytes (subst (IsRoom after) kept (answers .sound-room L room .room)) room
+  module _ (f : Ledger → Outcome) (r : Reply) (after : List ℕ) (bytes : All IsByte after) (answers : Answers f before r after) where
+    pub same-answer : (b : Bool) → Decides (SoundRoom before) b → (s : Reply) (others : List ℕ) → All IsByte others → Answers f before s others → (r ≡ s) × (after ≡ others)
+    same-answer b decides s others other-bytes also = by-soundness _ b decides
+        (λ L room.
+        let one = answers .sound-room L room in
+        let two = also .sound-room L room in
+        (one .answer ∙ sym (two .answer), canonical after others (f L .ledger) bytes other-bytes (one .room) (two .room)))
+        (λ none. (answers .other none .0 ∙ sym (also .other none .0), answers .other none .1 ∙ sym (also .other none .1)))
+
+    pub same-bytes : (L : Ledger) → IsRoom before L → All IsByte before → f L .ledger ≡ L → after ≡ before
+    same-bytes L room before-bytes kept = canonical after before L bytes before-bytes (subst (IsRoom after) kept (answers .sound-room L room .room)) room
+
+  pub same-reading : (f : Ledger → Reply) (r s : Reply) → Tells f before r → Tells f before s → (b : Bool) → Decides (SoundRoom before) b → r ≡ s
+  same-reading f r s one two b decides = by-soundness _ b decides (λ L room. one .sound-room L room ∙ sym (two .sound-room L room)) (λ none. one .other none ∙ sym (two .other none))
+
+-- A ledger that is made is a sound one, in its room.
+module _ (names reservations : ℕ) (L : Ledger) (is-made : made names reservations ≡ some L) (before : List ℕ) (size : length before ≡ roomSize names reservations) (r : Made) (after : List ℕ) where
+  pub made-is-room : Makes names reservations before r after → IsRoom after L
+  unfolding fresh
+  made-is-room makes =
+      let (a, b, q) = made-some names reservations L is-made in
+      let becomes = makes .overwrites L is-made size in
+      record { size = becomes .size ∙ size ∙ ap (λ K. roomSize (K .T) (K .R)) q; holds = becomes .holds; sound = subst Sound q (fresh-sound names reservations a b) }
