@@ -134,7 +134,7 @@ pub fn reserved(answer: Reserved) {
 
 pub fn committed(answer: Committed) {
     match answer {
-        Committed::Done(remaining, committed) => number_with_two(0, remaining, committed),
+        Committed::Done(remaining, actual) => number_with_two(0, remaining, actual),
         Committed::InvalidAmount => number(2),
         Committed::MissingReservation => number(7),
         Committed::MissingTenant => number(3),

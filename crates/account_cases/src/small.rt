@@ -52,6 +52,14 @@ fn settled(room: &mut [u8]) {
     calls::whole(room);
 }
 
+// "Carries remaining, actual": only an account that has committed before tells the fare from the committed amount.
+fn settled_again(room: &mut [u8]) {
+    calls::heading(b"settled again");
+    calls::reserve(room, b"QF", 5);
+    calls::commit(room, 5, 7);
+    calls::account(room, b"QF");
+}
+
 fn amounts(room: &mut [u8]) {
     calls::heading(b"amounts at their ends");
     calls::ensure(room, b"QF", LEAST);
@@ -99,6 +107,7 @@ fn sound_calls(room: &mut [u8]) {
     every_account(room);
     full_reservations(room);
     settled(room);
+    settled_again(room);
     amounts(room);
     long_names(room);
     not_made(room);
