@@ -1,5 +1,4 @@
 pub mod Deciding
-pub mod Words
 pub mod Seats
 pub mod Standing
 pub mod Tables

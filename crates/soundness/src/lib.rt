@@ -22,8 +22,6 @@ ghost use Rattle.soundness.specs.Making.{Makes};
 
 const M: u64 = 9223372036854775807;
 
-const TAG: u64 = 9223372036854775808;
-
 fn in_range(value: u64, low: u64, high: u64) -> bool
     ensures { λ r. ⌜ Decides (InRange low high value) r ⌝ }
 {
@@ -52,17 +50,17 @@ fn sizes_sound(sizes: Sizes, bytes: usize) -> bool
     bytes == 56 + 66 * (sizes.names as usize) + 18 * (sizes.reservations as usize)
 }
 
-// "last version is 0 or has bit 63 set and the low 63 bits not zero": the tag is tested and the fence cut out by mask.
+// "last version is 0 or has bit 63 set and the low 63 bits not zero"
 fn version_sound(version: u64) -> bool
     ensures { λ r. ⌜ Decides (VersionSound version) r ⌝ }
 {
     if version == 0 {
         return true;
     }
-    if version & TAG == 0 {
+    if !big_endian::has_tag(version) {
         return false;
     }
-    version & M != 0
+    big_endian::fence_of(version) != 0
 }
 
 // "next id is 1 to M"; the baseline is at most M.

@@ -1,12 +1,10 @@
 -- `soundness::version_sound` meets its contract.
-use mathlib.Core.Path.{_≡_, sym, _∙_}
+use mathlib.Core.Path.{sym, _∙_}
 use mathlib.Core.Logic.{inl, inr, ⊎-elim}
-use Prim.Native.Nat.{_-_, _^_}
-use native.Mathlib.Omega.{arith}
-use lib.Bits.{bitAnd}
-use Rattle.rules.specs.RoomAndSoundLedger.{fenceOf}
+use borrow.Author.Needs.{needs}
+use borrow.Author.Tests.{not-true, not-false}
+use Rattle.rules.proofs.Tests.{true-false}
 use Rattle.soundness.proofs.Deciding.{accept, refuse, by-unequal}
-use Rattle.soundness.proofs.Words.{tagged, untagged, fence-masked}
 use Rattle.soundness.proofs.version_sound.Statement.{statement}
 use Rattle.soundness.proofs.version_sound.Tie as tie
 
@@ -14,15 +12,17 @@ returns : tie.Need-returns
 returns c = accept (inl (c .if1 .taken))
 
 returns-2 : tie.Need-returns-2
-returns-2 c = refuse (⊎-elim (c .before .if1 .left) (λ p. untagged (c .before .before .args .version) (c .if2 .taken) (p .0)))
+returns-2 c =
+    let tag = c .before .has-tag in
+    refuse (⊎-elim (c .before .before .if1 .left) (λ p. true-false (p .0) (sym (tag .ensures) ∙ not-true _ (c .if2 .taken))))
 
 returns-3 : tie.Need-returns-3
 returns-3 c =
-    let v = c .before .before .args .version in
-    let mask : bitAnd v (2 ^ 63 - 1) ≡ fenceOf v = fence-masked v in
+    let fence = c .fence-of .ensures in
+    let tag = c .before .before .has-tag in
     by-unequal _ _
-    (λ n. inr (tagged v (omega arith) (c .if2 .left), λ e. n (mask ∙ e)))
-    (⊎-elim (λ e. absurd (c .before .if1 .left e)) (λ p e. p .1 (sym mask ∙ e)))
+    (λ n. inr (sym (tag .ensures) ∙ not-false _ (c .before .if2 .left), λ e. n (fence ∙ e)))
+    (⊎-elim (λ e. absurd (c .before .before .before .if1 .left e)) (λ p e. p .1 (sym fence ∙ e)))
 
 pub version-sound-spec : {M : Type 1} → statement M
-version-sound-spec = tie.close (tie.spec returns returns-2 returns-3)
+version-sound-spec = tie.close (tie.spec returns (λ c κs. search needs) returns-2 (λ c κs. search needs) returns-3)
