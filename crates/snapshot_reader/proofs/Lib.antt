@@ -1,0 +1,5 @@
+pub mod RowBytes
+pub mod Header
+pub mod Passing
+pub mod Rows
+pub mod Towards

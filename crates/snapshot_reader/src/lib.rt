@@ -1,0 +1,123 @@
+// A supplied snapshot in lent bytes. Its rows have names of any length up to 255 and are read where they stand, one after the other to the last byte.
+use numbers::Microcents;
+ghost use mathlib.Core.Path.{_≡_};
+ghost use mathlib.Core.Option.{some};
+ghost use mathlib.Core.List.{List, _∷_};
+ghost use Prim.Native.Nat.{_≤_};
+ghost use lib.ListN.{length, drop};
+ghost use Rattle.rules.specs.SnapshotsMigrationCertificates.{Row, Snapshot, readRow, snapshotOfBytes, hasLongName};
+ghost use Rattle.snapshot_reader.specs.Standing.{isRead, IsSnapshot, RowsFrom, RowStands, RowEnds, EndsName, ReadsRow};
+
+// A row's amounts, where its name ends (it starts after its length), and where the row ends.
+pub struct StandingRow {
+    pub initial: Microcents,
+    pub remaining: Microcents,
+    pub reserved: Microcents,
+    pub committed: Microcents,
+    pub name_end: usize,
+    pub end: usize,
+}
+
+enum RowEnd {
+    At(usize),
+    BadFrame,
+}
+
+fn row_end(bytes: &[u8], at: usize) -> RowEnd
+    requires { ⌜ at ≤ length (now bytes) ⌝ }
+    ensures { λ r. ⌜ RowEnds (now (bytes .entry)) at (readRow (drop at (now (bytes .entry)))) r ⌝ }
+{
+    let left = bytes.len() - at;
+    if left == 0 {
+        return RowEnd::BadFrame;
+    }
+    let size = 33 + bytes[at] as usize;
+    if left < size {
+        return RowEnd::BadFrame;
+    }
+    RowEnd::At(at + size)
+}
+
+// "A wrong length or more than 256 rows is 23." One pass over the rows, which looks at the length of each name alone.
+pub fn is_snapshot(bytes: &[u8]) -> bool
+    ensures { λ r. ⌜ r ≡ isRead (snapshotOfBytes (now (bytes .entry))) ⌝ }
+{
+    if bytes.len() < 18 {
+        return false;
+    }
+    let mut left = big_endian::read2(&bytes[16..18]);
+    if 256 < left {
+        return false;
+    }
+    let mut at = 18;
+    while 0 < left {
+        let RowEnd::At(end) = row_end(bytes, at) else {
+            return false;
+        };
+        at = end;
+        left -= 1;
+    }
+    at == bytes.len()
+}
+
+pub fn version(bytes: &[u8]) -> u64
+    requires { ⌜ IsSnapshot (now bytes) ⌝ }
+    ensures { λ r. ⌜ ((s : Snapshot) → snapshotOfBytes (now (bytes .entry)) ≡ some s → r ≡ s .version) ⌝ }
+{
+    big_endian::read8(&bytes[0..8])
+}
+
+pub fn active(bytes: &[u8]) -> u64
+    requires { ⌜ IsSnapshot (now bytes) ⌝ }
+    ensures { λ r. ⌜ ((s : Snapshot) → snapshotOfBytes (now (bytes .entry)) ≡ some s → r ≡ s .active) ⌝ }
+{
+    big_endian::read8(&bytes[8..16])
+}
+
+pub fn count(bytes: &[u8]) -> u64
+    requires { ⌜ IsSnapshot (now bytes) ⌝ }
+    ensures { λ r. ⌜ ((s : Snapshot) → snapshotOfBytes (now (bytes .entry)) ≡ some s → r ≡ length (s .rows)) ⌝ }
+{
+    big_endian::read2(&bytes[16..18])
+}
+
+pub fn name_end(bytes: &[u8], at: usize) -> usize
+    requires { ⌜ RowStands (now bytes) at ⌝ }
+    ensures { λ r. ⌜ ((row : Row) (later : List Row) → RowsFrom (now (bytes .entry)) at (row ∷ later) → EndsName (now (bytes .entry)) at row later r) ⌝ }
+{
+    at + 1 + bytes[at] as usize
+}
+
+pub fn read_row(bytes: &[u8], at: usize) -> StandingRow
+    requires { ⌜ RowStands (now bytes) at ⌝ }
+    ensures { λ r. ⌜ ((row : Row) (later : List Row) → RowsFrom (now (bytes .entry)) at (row ∷ later) → ReadsRow (now (bytes .entry)) at row later r) ⌝ }
+{
+    let name_end = name_end(bytes, at);
+    let second = name_end + 8;
+    let third = name_end + 16;
+    let fourth = name_end + 24;
+    let end = name_end + 32;
+    StandingRow {
+        initial: big_endian::read_amount(&bytes[name_end..second]),
+        remaining: big_endian::read_amount(&bytes[second..third]),
+        reserved: big_endian::read_amount(&bytes[third..fourth]),
+        committed: big_endian::read_amount(&bytes[fourth..end]),
+        name_end,
+        end,
+    }
+}
+
+// "a name length over 24 whose bytes fit": one pass over the rows.
+pub fn has_long_name(bytes: &[u8]) -> bool
+    requires { ⌜ IsSnapshot (now bytes) ⌝ }
+    ensures { λ r. ⌜ ((s : Snapshot) → snapshotOfBytes (now (bytes .entry)) ≡ some s → r ≡ hasLongName (s .rows)) ⌝ }
+{
+    let mut at = 18;
+    while at < bytes.len() {
+        if 24 < bytes[at] {
+            return true;
+        }
+        at = name_end(bytes, at) + 32;
+    }
+    false
+}
