@@ -15,7 +15,7 @@ pub struct Extent {
     pub end: usize,
 }
 
-fn write_name(part: &mut [u8], name: Name)
+pub fn write_name(part: &mut [u8], name: Name)
     requires { ⌜ (length (now part) ≡ 1 + name .length) × (name .length ≤ 24) ⌝ }
     ensures { λ _. ⌜ now (part .exit) ≡ nameBytes (spelled name) ⌝ }
 {

@@ -1,0 +1,3 @@
+pub mod Tables
+pub mod Decoding
+pub mod Spelling

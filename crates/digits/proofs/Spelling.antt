@@ -1,0 +1,43 @@
+-- Bytes turned into their line where they stand, from the last one back: what is done, and what a further byte adds.
+use mathlib.Core.Path.{_≡_, refl, sym, ap, _∙_}
+use mathlib.Core.List.{List, _∷_, _++_}
+use Prim.Native.Nat.{ℕ, suc, _+_, _/_, _%_, _≤_, _<_}
+use native.Mathlib.Nat.{add-zero}
+use native.Mathlib.Omega.{arith}
+use lib.ListN.{length, getD, take, drop, set}
+use lib.Seq.{drop-cons, drop-set-add, getD-take, slice, slice-empty, slice-cons, take-set-le, take-take}
+use Rattle.rules.specs.Frames.{characterOf, lineOfBytes}
+
+-- under way: the first i bytes are as they were, and from i + i on stands the line of the others, with what was behind it
+pub record Underway (before : List ℕ) (size : ℕ) (after : List ℕ) (i : ℕ) : Type 0 where
+  pub unread : take i after ≡ take i before
+  pub line : drop (i + i) after ≡ lineOfBytes (slice i size before) ++ drop (size + size) before
+
+-- two characters stored at a place
+stored : (xs : List ℕ) (at high low : ℕ) → at + 1 < length xs → drop at (set (set xs (at + 1) low) at high) ≡ high ∷ low ∷ drop (at + 2) xs
+stored xs at high low h =
+    let two : at + 2 ≡ suc (suc at) = omega arith in
+    ap (λ n. drop at (set (set xs (at + 1) low) n high)) (sym (add-zero at))
+    ∙ drop-set-add at (set xs (at + 1) low) 0 high
+    ∙ ap (λ ys. set ys 0 high) (drop-set-add at xs 1 low)
+    ∙ rw (two, drop-cons xs at 0 (omega arith), drop-cons xs (suc at) 0 (omega arith))
+
+module _ (before : List ℕ) (size : ℕ) where
+  pub begun : Underway before size before size
+  unfolding lineOfBytes
+  begun = record { unread = refl; line = rw (slice-empty size before) }
+
+  pub turn : (after : List ℕ) (i high low : ℕ) → i < size → size ≤ length before → i + i + 1 < length after → Underway before size after (suc i)
+      → high ≡ characterOf (getD after i 0 / 16) → low ≡ characterOf (getD after i 0 % 16) → Underway before size (set (set after (i + i + 1) low) (i + i) high) i
+  unfolding lineOfBytes
+  turn after i high low less fits room w is-high is-low =
+      let same : getD after i 0 ≡ getD before i 0 = sym (getD-take (suc i) after i 0 (omega arith)) ∙ ap (λ xs. getD xs i 0) (w .unread) ∙ getD-take (suc i) before i 0 (omega arith) in
+      let two : i + i + 2 ≡ suc i + suc i = omega arith in
+      record {
+        unread = take-set-le i (set after (i + i + 1) low) (i + i) high (omega arith)
+            ∙ take-set-le i after (i + i + 1) low (omega arith)
+            ∙ sym (take-take i (suc i) after (omega arith))
+            ∙ ap (take i) (w .unread)
+            ∙ take-take i (suc i) before (omega arith);
+        line = stored after (i + i) high low room ∙ rw (two, w .line, slice-cons i size before 0 less fits, is-high, is-low, same);
+      }

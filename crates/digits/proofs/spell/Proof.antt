@@ -1,0 +1,61 @@
+-- `digits::spell` meets its contract. The invariant: the bytes before i are still to read, and behind i + i stands the line of the others.
+use mathlib.Core.Path.{_≡_, refl, subst}
+use Prim.Native.Nat.{suc, _-_, _≤_}
+use native.Mathlib.Omega.{arith}
+use borrow.Author.Needs.{needs}
+use lib.ListN.{length, length-set}
+use Rattle.digits.proofs.Spelling.{Underway, begun, turn}
+use Rattle.digits.proofs.spell.Statement.{statement}
+use Rattle.digits.proofs.spell.Tie as tie
+
+abbrev Inv-loop : tie.InvT-loop
+Inv-loop output₀ size i₀ output i = (i ≤ size) × (length output ≡ length output₀) × Underway output₀ size output i
+
+abbrev μ-loop : tie.MeasureT-loop
+μ-loop output₀ size i₀ output i = i
+
+loop-holds : tie.Need-loop-holds Inv-loop μ-loop
+loop-holds c = let a = c .before .args in (omega arith, refl, begun (a .output .now) (a .size))
+
+character-requires-2 : tie.Need-character-requires-2 Inv-loop μ-loop
+character-requires-2 c κs = omega (arith, c .before .slice-known2 .given (c .before .before .before .loop .i - 1))
+
+loop-again : tie.Need-loop-again Inv-loop μ-loop
+loop-again c =
+    let l = c .before .before .before .before in
+    let o = l .loop in
+    let a = l .before .before .args in
+    let i = o .i - 1 in
+    let next : o .i ≡ suc i = omega arith in (
+      omega arith,
+      simp length-set (o .inv .1),
+      turn (a .output .now) (a .size) (o .output) i (c .character2 .result) (c .before .character .result) (omega arith) (omega arith) (omega arith)
+          (subst (Underway (a .output .now) (a .size) (o .output)) next (o .inv .2)) (c .character2 .ensures) (c .before .character .ensures),
+    )
+
+returns : tie.Need-returns Inv-loop μ-loop
+returns c =
+    let o = c .before .loop in
+    let a = c .before .before .before .args in
+    let none : o .i ≡ 0 = omega arith in
+    subst (Underway (a .output .now) (a .size) (o .output)) none (o .inv .2) .line
+
+pub spell-spec : {M : Type 1} → statement M
+spell-spec =
+    tie.close
+    (tie.spec
+    Inv-loop
+    μ-loop
+    loop-holds
+    (λ c. search needs)
+    (λ c. search needs)
+    (λ c. search needs)
+    (λ c κs. search needs)
+    (λ c. search needs)
+    (λ c. search needs)
+    character-requires-2
+    (λ c. simp length-set (omega arith))
+    (λ c. search needs)
+    loop-again
+    (λ c. search needs)
+    returns)

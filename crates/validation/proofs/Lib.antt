@@ -1,0 +1,5 @@
+pub mod Deciding
+pub mod Balancing
+pub mod Validating
+pub mod Seen
+pub mod Standing

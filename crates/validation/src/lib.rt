@@ -1,0 +1,197 @@
+// Judging a supplied snapshot: conservation row by row, and the checks of a restore or a migration in their order.
+use names::Name;
+use names::Order;
+use numbers::Microcents;
+use totals::Fitted;
+ghost use mathlib.Core.Path.{_≡_};
+ghost use mathlib.Core.Option.{some};
+ghost use Prim.Native.Nat.{ℕ, _≤_};
+ghost use mathlib.Core.List.{List, []};
+ghost use Rattle.rules.specs.Lists.{any};
+ghost use Rattle.rules.specs.RoomAndSoundLedger.{same};
+ghost use Rattle.rules.specs.SnapshotsMigrationCertificates.{Snapshot, snapshotOfBytes, rowConservation, conservation, rowValidation, rowsValidation, validation};
+ghost use Rattle.names.specs.Names.{spelled};
+ghost use Rattle.snapshot_reader.specs.Standing.{ShortNames, RowOf};
+ghost use Rattle.validation.specs.Judgement.{refusalOf, refusalIn, nameless, rowWith, seenIn};
+
+// What is said of a snapshot: a check that is refused hands its refusal straight up. A name that it carries stands beside it, since an enum holds no array.
+pub enum Verdict {
+    Done,
+    ActiveReservations(u64),
+    DuplicateTenant,
+    GhostReservation(Microcents),
+    NegativeLedgerField(u8, Microcents),
+    ConservationViolation(Microcents),
+    AggregateOverflow,
+    AlreadyRecoveryAware,
+    InvalidAllocatorFence(u64),
+    LegacySnapshotRequiresMigration,
+    NameTooLong,
+    NamesFull,
+    OutputTooShort,
+    BadFrame,
+    UnsoundLedger,
+}
+
+// The answer of every operation that is handed a snapshot. The name is that of the row that was refused; a verdict that carries none does not speak of it.
+pub struct Judged {
+    pub name: Name,
+    pub verdict: Verdict,
+}
+
+// A verdict that is of no row.
+pub fn nameless(verdict: Verdict) -> Judged
+    ensures { λ r. ⌜ r ≡ nameless verdict ⌝ }
+{
+    let bytes = [0u8; 24];
+    let name = Name { length: 0, bytes };
+    Judged { name, verdict }
+}
+
+// "the exact sum of remaining, reserved and committed; outside signed 64 bits gives 15. If the sum isn't initial, delta = sum - initial gives 14, or 15
+// if delta doesn't fit. If remaining is negative, 14 with remaining as delta."
+fn balance_of(
+    initial: Microcents,
+    remaining: Microcents,
+    reserved: Microcents,
+    committed: Microcents,
+) -> Verdict
+    ensures { λ r. ⌜ ((a : List ℕ) → refusalOf a r ≡ rowConservation (rowWith a (initial .0) (remaining .0) (reserved .0) (committed .0))) ⌝ }
+{
+    let held = totals::plus(totals::plus(totals::nothing(), remaining), reserved);
+    let sum = totals::plus(held, committed);
+    let Fitted::Fits(exact) = totals::fit(sum) else {
+        return Verdict::AggregateOverflow;
+    };
+    if exact.0 == initial.0 {
+        if remaining.0 < 0 {
+            return Verdict::ConservationViolation(remaining);
+        }
+        return Verdict::Done;
+    }
+    let Fitted::Fits(delta) = totals::fit(totals::minus(sum, initial)) else {
+        return Verdict::AggregateOverflow;
+    };
+    Verdict::ConservationViolation(delta)
+}
+
+// The name of the row that starts here, kept by value.
+fn name_at(bytes: &[u8], at: usize) -> Name
+    requires { ⌜ RowOf (now bytes) at ⌝ }
+    ensures name { λ r. ⌜ ((here : RowOf (now (bytes .entry)) at) → spelled r ≡ here .row .name) ⌝ }
+    ensures short { λ r. ⌜ r .length ≤ 24 ⌝ }
+{
+    let from = at + 1;
+    let end = snapshot_reader::name_end(bytes, at);
+    names::name_of(&bytes[from..end])
+}
+
+fn row_conservation(bytes: &[u8], at: usize) -> Verdict
+    requires { ⌜ RowOf (now bytes) at ⌝ }
+    ensures { λ r. ⌜ ((here : RowOf (now (bytes .entry)) at) → refusalOf (here .row .name) r ≡ rowConservation (here .row)) ⌝ }
+{
+    let row = snapshot_reader::read_row(bytes, at);
+    balance_of(row.initial, row.remaining, row.reserved, row.committed)
+}
+
+// "The first bad row decides." One pass over the rows.
+pub fn conservation(bytes: &[u8]) -> Judged
+    requires { ⌜ ShortNames (now bytes) ⌝ }
+    ensures refusal { λ r. ⌜ ((s : Snapshot) → snapshotOfBytes (now (bytes .entry)) ≡ some s → refusalIn r ≡ conservation (s .rows)) ⌝ }
+    ensures short { λ r. ⌜ r .name .length ≤ 24 ⌝ }
+{
+    let mut at = 18;
+    while at < bytes.len() {
+        let verdict = row_conservation(bytes, at);
+        let Verdict::Done = verdict else {
+            let name = name_at(bytes, at);
+            return Judged { name, verdict };
+        };
+        at = snapshot_reader::name_end(bytes, at) + 32;
+    }
+    nameless(Verdict::Done)
+}
+
+// "name seen earlier": the row's name against that of each row before it.
+fn seen_earlier(bytes: &[u8], at: usize) -> bool
+    requires { ⌜ RowOf (now bytes) at ⌝ }
+    ensures { λ r. ⌜ ((here : RowOf (now (bytes .entry)) at) → r ≡ any (same (here .row .name)) (seenIn [] (here .earlier))) ⌝ }
+{
+    let from = at + 1;
+    let end = snapshot_reader::name_end(bytes, at);
+    let mut earlier = 18;
+    while earlier < at {
+        let earlier_from = earlier + 1;
+        let earlier_end = snapshot_reader::name_end(bytes, earlier);
+        let order = names::compare(&bytes[from..end], &bytes[earlier_from..earlier_end]);
+        if let Order::Same = order {
+            return true;
+        }
+        earlier = earlier_end + 32;
+    }
+    false
+}
+
+// "11 (name seen earlier), 12 (reserved not 0), 13 for fields 1, 2, 3"
+fn row_validation(bytes: &[u8], at: usize) -> Verdict
+    requires { ⌜ RowOf (now bytes) at ⌝ }
+    ensures { λ r. ⌜ ((here : RowOf (now (bytes .entry)) at) → refusalOf (here .row .name) r ≡ rowValidation (seenIn [] (here .earlier)) (here .row)) ⌝ }
+{
+    if seen_earlier(bytes, at) {
+        return Verdict::DuplicateTenant;
+    }
+    let row = snapshot_reader::read_row(bytes, at);
+    let reserved = row.reserved;
+    if reserved.0 != 0 {
+        return Verdict::GhostReservation(reserved);
+    }
+    let remaining = row.remaining;
+    if remaining.0 < 0 {
+        return Verdict::NegativeLedgerField(1, remaining);
+    }
+    let initial = row.initial;
+    if initial.0 < 0 {
+        return Verdict::NegativeLedgerField(2, initial);
+    }
+    let committed = row.committed;
+    if committed.0 < 0 {
+        return Verdict::NegativeLedgerField(3, committed);
+    }
+    Verdict::Done
+}
+
+// One pass over the rows, in which each name is compared with those before it: at most 256 x 255 / 2 comparisons.
+fn rows_validation(bytes: &[u8]) -> Judged
+    requires { ⌜ ShortNames (now bytes) ⌝ }
+    ensures refusal { λ r. ⌜ ((s : Snapshot) → snapshotOfBytes (now (bytes .entry)) ≡ some s → refusalIn r ≡ rowsValidation [] (s .rows)) ⌝ }
+    ensures short { λ r. ⌜ r .name .length ≤ 24 ⌝ }
+{
+    let mut at = 18;
+    while at < bytes.len() {
+        let verdict = row_validation(bytes, at);
+        let Verdict::Done = verdict else {
+            let name = name_at(bytes, at);
+            return Judged { name, verdict };
+        };
+        at = snapshot_reader::name_end(bytes, at) + 32;
+    }
+    nameless(Verdict::Done)
+}
+
+// "active count above 0 gives 10; then for each row ..; then conservation over all rows": two passes over the rows.
+pub fn validation(bytes: &[u8]) -> Judged
+    requires { ⌜ ShortNames (now bytes) ⌝ }
+    ensures refusal { λ r. ⌜ ((s : Snapshot) → snapshotOfBytes (now (bytes .entry)) ≡ some s → refusalIn r ≡ validation s) ⌝ }
+    ensures short { λ r. ⌜ r .name .length ≤ 24 ⌝ }
+{
+    let active = snapshot_reader::active(bytes);
+    if 0 < active {
+        return nameless(Verdict::ActiveReservations(active));
+    }
+    let judged = rows_validation(bytes);
+    let verdict = judged.verdict;
+    let Verdict::Done = verdict else {
+        return judged;
+    };
+    conservation(bytes)
+}
