@@ -16,13 +16,13 @@ use Rattle.rules.proofs.Names.{order-eq, order-flip, order-trans, same-
 
 -- ── the two laws of a seat written ─────────────────────────────────────────────────────────────
 
-seatIn-put : (a : Name) (s : Seat) (ps : List Place) → seatIn a (put a s ps) ≡ s
+pub seatIn-put : (a : Name) (s : Seat) (ps : List Place) → seatIn a (put a s ps) ≡ s
 unfolding seatIn put first
 seatIn-put a s [] = rw (same-self a)
 seatIn-put a s (p ∷ ps) = by-order (λ o. order a (p .name) ≡ o → seatIn a (inserted o (place a s) p ps (put a s ps)) ≡ s) (order a (p .name))
     (λ _ e. rw (same-self a)) (λ _ e. rw (same-self a)) (λ _ e. rw (gt-other a (p .name) e) (seatIn-put a s ps)) refl
 
-seatIn-put-other : (b a : Name) (s : Seat) (ps : List Place) → same b a ≡ false → seatIn b (put a s ps) ≡ seatIn b ps
+pub seatIn-put-other : (b a : Name) (s : Seat) (ps : List Place) → same b a ≡ false → seatIn b (put a s ps) ≡ seatIn b ps
 unfolding seatIn put first
 seatIn-put-other b a s [] n = rw n
 seatIn-put-other b a s (p ∷ ps) n = by-order (λ o. order a (p .name) ≡ o → seatIn b (inserted o (place a s) p ps (put a s ps)) ≡ seatIn b (p ∷ ps)) (order a (p .name))

@@ -20,7 +20,7 @@ use Rattle.rules.specs.Domain.{RowFits, SnapshotFits, OperationFits}
 use Rattle.rules.proofs.Tests.{by-test, by-option, and-true}
 use Rattle.rules.proofs.Lists.{all-map, all-both}
 use Rattle.rules.proofs.Places.{seatIn-all, all-put, ascend-put, more, length-put}
-use Rattle.rules.proofs.SoundByName.{AccountSound, SoundByName, by-name, by-place}
+use Rattle.rules.proofs.SoundByName.{AccountSound, AccountsSound, PlacesSound, SoundByName, by-name, by-place}
 use Rattle.rules.proofs.Soundness.{bookings-after-draw, not-last, operate-sound}
 use Rattle.rules.proofs.Checks.{Restorable, VersionPasses, restore-version-passes, recovery-version-passes, RestorePasses, restore-passes}
 
@@ -109,17 +109,22 @@ unfolding restoredPlaces
 restored-ascend [] = tt
 restored-ascend (r ∷ rs) = ascend-put (r .name) (restoredSeat r) (restoredPlaces rs) (restored-ascend rs)
 
+pub restored-held : (rs : List Row) → All (λ p. isVacant (p .seat) ≡ false) (restoredPlaces rs)
+unfolding restoredPlaces
+restored-held [] = tt
+restored-held (r ∷ rs) = all-put (λ p. isVacant (p .seat) ≡ false) (r .name) (restoredSeat r) (restoredPlaces rs) refl (restored-held rs)
+
 at-most-one : (b : Bool) → more b ≤ 1
 at-most-one true = omega arith
 at-most-one false = omega arith
 
-restored-length : (rs : List Row) → length (restoredPlaces rs) ≤ length rs
+pub restored-length : (rs : List Row) → length (restoredPlaces rs) ≤ length rs
 unfolding restoredPlaces
 restored-length [] = omega arith
 restored-length (r ∷ rs) = omega (arith, restored-length rs, length-put (r .name) (restoredSeat r) (restoredPlaces rs) (restored-ascend rs), at-most-one (holdsPlace (r .name) (restoredPlaces rs)))
 
 -- an account from a row that can be restored is sound with nothing reserved
-restored-account : (r : Row) → RowFits r → Restorable r → AccountSound 0 (restoredSeat r .account)
+pub restored-account : (r : Row) → RowFits r → Restorable r → AccountSound 0 (restoredSeat r .account)
 restored-account r f h = (omega (arith, h .adds-up), leb-true (natural (r .initial)) M (subst (λ z. fits64 z ≡ true) (h .initial) (f .initial)), refl)
 
 restored-name : (r : Row) → RowFits r → isTooLong (r .name) ≡ false → IsName (r .name)
@@ -129,6 +134,21 @@ fence-in-range : (v : ℕ) → VersionPasses v → InRange 1 M (fenceOf v)
 unfolding M
 fence-in-range v h = let n : fenceOf v ≢ 0 = eqb-false (fenceOf v) 0 (h .fence) in (omega arith, omega arith)
 
+-- rows that fit and pass the checks are the places of a sound ledger that has room for them
+pub restored-places-sound : (t : ℕ) (rs : List Row) → All RowFits rs → All (λ r. isTooLong (r .name) ≡ false) rs → length rs ≤ t → PlacesSound t (restoredPlaces rs)
+restored-places-sound t rs fits short few = record {
+  fit = omega (arith, restored-length rs);
+  are-names = restored-all (λ p. IsName (p .name)) rs (all-both RowFits (λ r. isTooLong (r .name) ≡ false) (λ r. IsName (r .name)) restored-name rs fits short);
+  ascend = restored-ascend rs;
+  limits = restored-all (λ p. p .seat .limit ≤ M) rs (all-map RowFits (λ r. 0 ≤ M) (λ r _. omega arith) rs fits);
+  held = restored-held rs;
+}
+
+pub restored-accounts-sound : (rs : List Row) → All RowFits rs → All Restorable rs → AccountsSound (restoredPlaces rs) []
+unfolding reservedFor sum
+restored-accounts-sound rs fits pass = seatIn-all (λ t. AccountSound 0 (t .account)) (restoredPlaces rs) refl
+    (restored-all (λ p. AccountSound 0 (p .seat .account)) rs (all-both RowFits Restorable (λ r. AccountSound 0 (restoredSeat r .account)) restored-account rs fits pass))
+
 module _ (L : Ledger) (known : SoundByName L) (s : Snapshot) (fits : SnapshotFits s) where
   restored-sound : (ofVersion : Option Refusal) → VersionPasses (s .version) → RestorePasses ofVersion (L .T) s → SoundByName (restored L s)
   restored-sound ofVersion version passed =
@@ -136,16 +156,9 @@ module _ (L : Ledger) (known : SoundByName L) (s : Snapshot) (fits : SnapshotFit
       record {
         names-in-range = known .names-in-range;
         reservations-in-range = known .reservations-in-range;
-        places = record {
-          fit = omega (arith, restored-length rs, passed .fit);
-          are-names = restored-all (λ p. IsName (p .name)) rs (all-both RowFits (λ r. isTooLong (r .name) ≡ false) (λ r. IsName (r .name)) restored-name rs (fits .rows) (passed .short-names));
-          ascend = restored-ascend rs;
-          limits = restored-all (λ p. p .seat .limit ≤ M) rs (all-map RowFits (λ r. 0 ≤ M) (λ r _. omega arith) rs (fits .rows));
-          held = restored-all (λ p. isVacant (p .seat) ≡ false) rs (all-map RowFits (λ r. false ≡ false) (λ r _. refl) rs (fits .rows));
-        };
+        places = restored-places-sound (L .T) rs (fits .rows) (passed .short-names) (passed .fit);
         bookings = record { fit = omega arith; ascend = tt; in-range = tt; positive = tt };
-        accounts = unfold reservedFor sum in seatIn-all (λ t. AccountSound 0 (t .account)) (restoredPlaces rs) refl
-            (restored-all (λ p. AccountSound 0 (p .seat .account)) rs (all-both RowFits Restorable (λ r. AccountSound 0 (restoredSeat r .account)) restored-account rs (fits .rows) (passed .rows)));
+        accounts = restored-accounts-sound rs (fits .rows) (passed .rows);
         next-id = fence-in-range (s .version) version;
         last-version = inr (version .tag, eqb-false (fenceOf (s .version)) 0 (version .fence));
         baseline = (omega arith, omega arith);

@@ -41,15 +41,16 @@ further : (c : tie.After-name-end Inv-loop μ-loop) → let i = c .before .befor
 further c = forward (row-stands (c .before .before .before .before)) (c .name-end .ensures)
 
 returns : tie.Need-returns Inv-loop μ-loop
-returns c =
-    (λ s e.
-    let judged = c .before .before in
-    let l = judged .before .before in
-    let names = namesIn (entry l .pre) s e in
-    let a = at-row (l .loop .inv names) (judged .before .loop-test .taken) in
-    let here = rowHere names a in
-    conserved-stops (judged .row-conservation .result) (a .row) (a .later) (judged .row-conservation .ensures here) _ (c .name-at .ensures .0 here) (c .before .match .keys2) ∙ sym (a .so-far),
-    c .name-at .ensures .1)
+returns c = (
+  λ s e.
+      let judged = c .before .before in
+      let l = judged .before .before in
+      let names = namesIn (entry l .pre) s e in
+      let a = at-row (l .loop .inv names) (judged .before .loop-test .taken) in
+      let here = rowHere names a in
+      conserved-stops (judged .row-conservation .result) (a .row) (a .later) (judged .row-conservation .ensures here) _ (c .name-at .ensures .0 here) (c .before .match .keys2) ∙ sym (a .so-far),
+  c .name-at .ensures .1,
+)
 
 loop-again : tie.Need-loop-again Inv-loop μ-loop
 loop-again c names =
@@ -60,9 +61,10 @@ loop-again c names =
 
 returns-2 : tie.Need-returns-2 Inv-loop μ-loop
 unfolding conservation
-returns-2 c =
-    (λ s e. ap refusalIn (c .nameless .ensures) ∙ sym (finished (c .before .before .loop .inv (namesIn (entry (c .before .before) .pre) s e)) (c .before .loop-test .left)),
-    subst (λ j. j .name .length ≤ 24) (sym (c .nameless .ensures)) (omega arith))
+returns-2 c = (
+  λ s e. ap refusalIn (c .nameless .ensures) ∙ sym (finished (c .before .before .loop .inv (namesIn (entry (c .before .before) .pre) s e)) (c .before .loop-test .left)),
+  subst (λ j. j .name .length ≤ 24) (sym (c .nameless .ensures)) (omega arith),
+)
 
 pub conservation-spec : {M : Type 1} → statement M
 conservation-spec =

@@ -23,9 +23,10 @@ name-of-requires c κs = subst (λ part. length part ≤ 24) (sym (part-is-name 
 
 returns : tie.Need-returns
 returns c =
-    let e = c .before .before in
-    (λ here. ap spelled (c .name-of .ensures) ∙ spelled-stored _ ∙ part-is-name (e .name-end .ensures (here .row) (here .later) (here .from)),
-    subst (λ n. n .length ≤ 24) (sym (c .name-of .ensures)) (subst (λ part. length part ≤ 24) (sym (part-is-name (ends e))) (short-name e)))
+    let e = c .before .before in (
+      λ here. ap spelled (c .name-of .ensures) ∙ spelled-stored _ ∙ part-is-name (e .name-end .ensures (here .row) (here .later) (here .from)),
+      subst (λ n. n .length ≤ 24) (sym (c .name-of .ensures)) (subst (λ part. length part ≤ 24) (sym (part-is-name (ends e))) (short-name e)),
+    )
 
 pub name-at-spec : {M : Type 1} → statement M
 name-at-spec =

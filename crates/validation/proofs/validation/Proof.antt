@@ -15,12 +15,13 @@ use Rattle.validation.proofs.validation.Tie as tie
 
 returns : tie.Need-returns
 unfolding validation
-returns c =
-    (λ s e.
-    let active = c .before .before .active in
-    let some-live : 0 < s .active = omega (arith, active .ensures s e, c .before .if1 .taken) in
-    ap refusalIn (c .nameless .ensures) ∙ ap (λ n. some (ActiveReservations n)) (active .ensures s e) ∙ sym (decides _ _ _ (lt-ltb 0 (s .active) some-live)),
-    subst (λ j. j .name .length ≤ 24) (sym (c .nameless .ensures)) (omega arith))
+returns c = (
+  λ s e.
+      let active = c .before .before .active in
+      let some-live : 0 < s .active = omega (arith, active .ensures s e, c .before .if1 .taken) in
+      ap refusalIn (c .nameless .ensures) ∙ ap (λ n. some (ActiveReservations n)) (active .ensures s e) ∙ sym (decides _ _ _ (lt-ltb 0 (s .active) some-live)),
+  subst (λ j. j .name .length ≤ 24) (sym (c .nameless .ensures)) (omega arith),
+)
 
 -- none live: the rows decide, and then their conservation
 by-rows : (c : tie.After-rows-validation) (s : Snapshot) → snapshotOfBytes (c .before .before .before .before .args .bytes .now) ≡ some s → validation s ≡ andThen (refusalIn (c .rows-validation .result)) (conservation (s .rows))
@@ -38,9 +39,10 @@ returns-2 c =
 returns-3 : tie.Need-returns-3
 returns-3 c =
     let judged = c .before .before .before in
-    let j = judged .rows-validation .result in
-    (λ s e. c .conservation .ensures .0 s e ∙ sym (by-rows judged s e ∙ passes-on (spelled (j .name)) (j .verdict) (conservation (s .rows)) (c .before .enum-told .given .1)),
-    c .conservation .ensures .1)
+    let j = judged .rows-validation .result in (
+      λ s e. c .conservation .ensures .0 s e ∙ sym (by-rows judged s e ∙ passes-on (spelled (j .name)) (j .verdict) (conservation (s .rows)) (c .before .enum-told .given .1)),
+      c .conservation .ensures .1,
+    )
 
 pub validation-spec : {M : Type 1} → statement M
 validation-spec =

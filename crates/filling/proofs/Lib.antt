@@ -1,0 +1,3 @@
+pub mod Placing
+pub mod Putting
+pub mod Renewing

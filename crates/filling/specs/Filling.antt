@@ -1,0 +1,35 @@
+-- The rows of a snapshot that has passed every check, put in the place of what a room holds.
+use mathlib.Core.Path.{_≡_}
+use mathlib.Core.Bool.{false}
+use mathlib.Core.List.{List}
+use mathlib.Core.Option.{none, some}
+use Prim.Native.Nat.{ℕ, _≤_, min}
+use lib.ListN.{length}
+use Rattle.rules.specs.RoomAndSoundLedger.{M, Ledger, committedTotal, fresh}
+use Rattle.rules.specs.AccountRules.{natural, withPlaces}
+use Rattle.rules.specs.SnapshotsMigrationCertificates.{Row, Snapshot, snapshotOfBytes, hasLongName, validation, restoredPlaces}
+use Rattle.moves.specs.declared.Seat.{Seat}
+use Rattle.contents.specs.Contents.{contentsOf}
+use Rattle.contents.specs.Room.{contentsIn, IsRoom}
+
+-- a snapshot that a ledger with room for so many names takes: "then validation; more rows than T gives 20"
+pub record Takes (names : ℕ) (bs : List ℕ) : Type 0 where
+  pub snapshot : Snapshot
+  pub is-read : snapshotOfBytes bs ≡ some snapshot
+  pub short : hasLongName (snapshot .rows) ≡ false
+  pub valid : validation snapshot ≡ none
+  pub few : length (snapshot .rows) ≤ names
+
+-- memory that holds this ledger, of the size it had
+pub record Holds (L : Ledger) (before after : List ℕ) : Type 0 where
+  pub size : length after ≡ length before
+  pub contents : contentsOf after ≡ contentsIn L
+
+-- a row's account, with nothing reserved and no limit
+abbrev pub seatOfRow : Row → Seat
+seatOfRow r = record { initial = natural (r .initial); remaining = natural (r .remaining); reserved = 0; committed = natural (r .committed); limit = 0; account = 1 }
+
+-- the room of a fresh ledger with these rows put into it, and "the committed total or M"
+pub record PutsRows (t r : ℕ) (rs : List Row) (room : List ℕ) (baseline : ℕ) : Type 0 where
+  pub is-room : IsRoom room (withPlaces (fresh t r) (restoredPlaces rs))
+  pub total : baseline ≡ min (committedTotal (restoredPlaces rs)) M

@@ -1,0 +1,96 @@
+// A snapshot that has passed every check, put in the place of all that a room holds. Live reservations and limits are cleared with the rest.
+use moves::Seat;
+use numbers::Microcents;
+use numbers::Sum;
+use records::Head;
+use snapshot_reader::StandingRow;
+ghost use mathlib.Core.Path.{_≡_};
+ghost use mathlib.Core.Bool.{true, false};
+ghost use mathlib.Core.Option.{some};
+ghost use Prim.Native.Nat.{_+_, _≤_, min};
+ghost use lib.IntN.{pos};
+ghost use lib.Signed.{ltZ};
+ghost use lib.ListN.{length};
+ghost use Rattle.rules.specs.RoomAndSoundLedger.{M, Ledger, isVacant, fresh};
+ghost use Rattle.rules.specs.AccountRules.{natural, seated, hasRoom, withPlaces};
+ghost use Rattle.rules.specs.SnapshotsMigrationCertificates.{Row, Snapshot, snapshotOfBytes, restored};
+ghost use Rattle.moves.specs.Moves.{meaning, SeatSound};
+ghost use Rattle.contents.specs.Room.{SoundRoom, IsRoom};
+ghost use Rattle.filling.specs.Filling.{Takes, Holds, seatOfRow, PutsRows};
+
+fn natural(amount: Microcents) -> u64
+    requires { ⌜ ltZ (amount .0) (pos 0) ≡ false ⌝ }
+    ensures { λ r. ⌜ r ≡ natural (amount .0) ⌝ }
+{
+    let x = amount.0;
+    x as u64
+}
+
+// "the committed total or M"
+fn capped(total: u64, more: u64) -> u64
+    requires { ⌜ total ≤ M ⌝ }
+    ensures { λ r. ⌜ r ≡ min (total + more) M ⌝ }
+{
+    let Sum::Fits(sum) = numbers::plus(total, more) else {
+        return 9223372036854775807;
+    };
+    sum
+}
+
+fn seat_of(row: StandingRow) -> Seat
+    requires { ⌜ (ltZ (row .initial .0) (pos 0) ≡ false) × (ltZ (row .remaining .0) (pos 0) ≡ false) × (ltZ (row .committed .0) (pos 0) ≡ false) ⌝ }
+    ensures { λ r. ⌜ ((rules : Row) → row .initial .0 ≡ rules .initial → row .remaining .0 ≡ rules .remaining → row .committed .0 ≡ rules .committed → r ≡ seatOfRow rules) ⌝ }
+{
+    Seat {
+        initial: natural(row.initial),
+        remaining: natural(row.remaining),
+        reserved: 0,
+        committed: natural(row.committed),
+        limit: 0,
+        account: 1,
+    }
+}
+
+fn put_row(room: &mut [u8], part: &[u8], seat: Seat)
+    requires { ⌜ SoundRoom (now room) × (length (now part) ≤ 24) × SeatSound seat × (isVacant (meaning seat) ≡ false) × ((L : Ledger) → IsRoom (now room) L → hasRoom (now part) (meaning seat) L ≡ true) ⌝ }
+    ensures { λ _. ⌜ ((L : Ledger) → IsRoom (now (room .entry)) L → Holds (withPlaces L (seated (now (part .entry)) (meaning seat) (L .places))) (now (room .entry)) (now (room .exit))) ⌝ }
+{
+    let found = lookup::find(room, part);
+    writing::write_seat(room, part, found, seat);
+}
+
+// One pass over the rows; each is looked for among those already put, which ascend, and rows that come in ascending order move nothing.
+fn put_rows(room: &mut [u8], bytes: &[u8]) -> u64
+    requires { ⌜ SoundRoom (now room) × ((L : Ledger) → IsRoom (now room) L → (L ≡ fresh (L .T) (L .R)) × Takes (L .T) (now bytes)) ⌝ }
+    ensures { λ r. ⌜ ((L : Ledger) → IsRoom (now (room .entry)) L → (s : Snapshot) → snapshotOfBytes (now (bytes .entry)) ≡ some s → PutsRows (L .T) (L .R) (s .rows) (now (room .exit)) r) ⌝ }
+{
+    let mut baseline = 0;
+    let mut at = 18;
+    while at < bytes.len() {
+        let row = snapshot_reader::read_row(bytes, at);
+        let from = at + 1;
+        let name_end = row.name_end;
+        put_row(room, &bytes[from..name_end], seat_of(row));
+        baseline = capped(baseline, natural(row.committed));
+        at = row.end;
+    }
+    baseline
+}
+
+// "It clears live reservations and limits, sets next id to the low 63 bits, last version, and the baseline to the committed total or M."
+pub fn fill(room: &mut [u8], bytes: &[u8])
+    requires { ⌜ SoundRoom (now room) × ((L : Ledger) → IsRoom (now room) L → Takes (L .T) (now bytes)) ⌝ }
+    ensures { λ _. ⌜ ((L : Ledger) → IsRoom (now (room .entry)) L → (s : Snapshot) → snapshotOfBytes (now (bytes .entry)) ≡ some s → Holds (restored L s) (now (room .entry)) (now (room .exit))) ⌝ }
+{
+    let sizes = records::load_sizes(room);
+    soundness::make(room, sizes.names, sizes.reservations);
+    let baseline = put_rows(room, bytes);
+    let version = snapshot_reader::version(bytes);
+    let fence = big_endian::fence_of(version);
+    let head = Head {
+        next_id: fence,
+        last_version: version,
+        baseline,
+    };
+    tables::put_head(room, head);
+}

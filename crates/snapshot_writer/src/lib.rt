@@ -1,0 +1,109 @@
+// A snapshot of a ledger already known to be sound, written into lent output.
+use heads::Stamped;
+use records::Place;
+use row_writer::Extent;
+ghost use mathlib.Core.Path.{_≡_};
+ghost use mathlib.Core.Bool.{not};
+ghost use mathlib.Core.List.{List, _++_, flatMap};
+ghost use Prim.Native.Nat.{ℕ, _+_, _≤_, _<_};
+ghost use lib.ListN.{length};
+ghost use Rattle.rules.specs.RoomAndSoundLedger.{Ledger};
+ghost use Rattle.rules.specs.SnapshotsMigrationCertificates.{Row, rowBytes, accountRows, snapshotOf, tooShortFor, snapshot};
+ghost use Rattle.row_writer.specs.Rows.{WritesRows};
+ghost use Rattle.contents.specs.Room.{SoundRoom, IsRoom, Performs};
+ghost use Rattle.snapshot_writer.specs.Output.{rowSize, rowOfPlace, outputAfter, snapshotReply};
+
+pub enum Snapshotted {
+    Written(usize),
+    AllocatorExhausted,
+    OutputTooShort,
+    UnsoundLedger,
+}
+
+// A name with a limit alone is not a row.
+fn row_size(place: Place) -> usize
+    ensures { λ r. ⌜ r ≡ rowSize place ⌝ }
+{
+    if place.account != 0 {
+        let name = place.name;
+        return 33 + name.length as usize;
+    }
+    0
+}
+
+fn rows_size(room: &[u8]) -> usize
+    requires { ⌜ SoundRoom (now room) ⌝ }
+    ensures { λ r. ⌜ ((L : Ledger) → IsRoom (now (room .entry)) L → r ≡ length (flatMap rowBytes (accountRows (L .places)))) ⌝ }
+{
+    let sizes = records::load_sizes(room);
+    let used = sizes.used as usize;
+    let mut size = 0;
+    let mut i = 0;
+    while i < used {
+        size += row_size(records::load_place(room, i));
+        i += 1;
+    }
+    size
+}
+
+// "output too short gives 22". Output with room for the longest names needs no pass over the places to tell.
+fn has_room(room: &[u8], size: usize) -> bool
+    requires { ⌜ SoundRoom (now room) ⌝ }
+    ensures { λ r. ⌜ ((L : Ledger) → IsRoom (now (room .entry)) L → r ≡ not (tooShortFor size (snapshotOf L))) ⌝ }
+{
+    let sizes = records::load_sizes(room);
+    let longest = 18 + 57 * (sizes.used as usize);
+    if longest <= size {
+        return true;
+    }
+    18 + rows_size(room) <= size
+}
+
+// A name with a limit alone is not a row.
+fn append_account(output: &mut [u8], extent: Extent, place: Place) -> Extent
+    requires room { ⌜ extent .end + rowSize place ≤ length (now output) ⌝ }
+    requires short { ⌜ place .name .length ≤ 24 ⌝ }
+    requires few { ⌜ extent .rows < 256 ⌝ }
+    ensures { λ r. ⌜ ((before : List ℕ) (rs : List Row) → WritesRows rs before (now (output .entry)) extent → WritesRows (rs ++ rowOfPlace place) before (now (output .exit)) r) ⌝ }
+{
+    if place.account == 0 {
+        return extent;
+    }
+    row_writer::append_row(output, extent, place)
+}
+
+// "Accounts ascend by name": the places do. One pass over them.
+fn write_rows(room: &[u8], output: &mut [u8]) -> Extent
+    requires { ⌜ SoundRoom (now room) × ((L : Ledger) → IsRoom (now room) L → 18 + length (flatMap rowBytes (accountRows (L .places))) ≤ length (now output)) ⌝ }
+    ensures { λ r. ⌜ ((L : Ledger) → IsRoom (now (room .entry)) L → WritesRows (accountRows (L .places)) (now (output .entry)) (now (output .exit)) r) ⌝ }
+{
+    let sizes = records::load_sizes(room);
+    let used = sizes.used as usize;
+    let mut extent = Extent { rows: 0, end: 18 };
+    let mut i = 0;
+    while i < used {
+        extent = append_account(output, extent, records::load_place(room, i));
+        i += 1;
+    }
+    extent
+}
+
+// "next id M gives 9; output too short gives 22; else next id grows by 1 and the version is 2^63 plus the new next id, stored as last version." One pass
+// over the places, and one more before it to measure them where the output might be too short.
+pub fn snapshot(room: &mut [u8], output: &mut [u8]) -> Snapshotted
+    requires { ⌜ SoundRoom (now room) ⌝ }
+    ensures performs { λ r. ⌜ ((L : Ledger) → IsRoom (now (room .entry)) L → Performs (snapshot (length (now (output .entry)))) L (snapshotReply (now (output .exit)) r) (now (room .exit))) ⌝ }
+    ensures output { λ r. ⌜ now (output .exit) ≡ outputAfter (snapshotReply (now (output .exit)) r) (now (output .entry)) ⌝ }
+{
+    let Stamped::Next(head) = heads::stamp(records::load_head(room)) else {
+        return Snapshotted::AllocatorExhausted;
+    };
+    if !has_room(room, output.len()) {
+        return Snapshotted::OutputTooShort;
+    }
+    let sizes = records::load_sizes(room);
+    let extent = write_rows(room, output);
+    row_writer::write_header(output, head.last_version, sizes.live, extent.rows);
+    tables::put_head(room, head);
+    Snapshotted::Written(extent.end)
+}
