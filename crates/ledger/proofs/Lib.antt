@@ -1,2 +1,2 @@
-pub mod Checked
-pub mod SameBytes
+pub mod Told
+pub mod SameReading

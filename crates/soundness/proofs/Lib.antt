@@ -14,3 +14,5 @@ pub mod NameBytes
 pub mod FactsToSound
 pub mod SoundToFacts
 pub mod Sound
+pub mod Checked
+pub mod SameBytes

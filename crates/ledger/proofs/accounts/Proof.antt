@@ -1,7 +1,7 @@
 -- `ledger::accounts` meets its contract: checked first, then the read proper.
 use borrow.Author.Needs.{needs}
 use borrow.Author.Tests.{not-false}
-use Rattle.ledger.proofs.Checked.{untold, told}
+use Rattle.ledger.proofs.Told.{untold, told}
 use Rattle.ledger.proofs.accounts.Statement.{statement}
 use Rattle.ledger.proofs.accounts.Tie as tie
 

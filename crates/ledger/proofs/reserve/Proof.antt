@@ -1,7 +1,7 @@
 -- `ledger::reserve` meets its contract: checked first, then the operation proper.
 use borrow.Author.Needs.{needs}
 use borrow.Author.Tests.{not-false}
-use Rattle.ledger.proofs.Checked.{refused, answered}
+use Rattle.soundness.proofs.Checked.{refused, answered}
 use Rattle.ledger.proofs.reserve.Statement.{statement}
 use Rattle.ledger.proofs.reserve.Tie as tie
 

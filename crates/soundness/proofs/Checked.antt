@@ -7,8 +7,7 @@ use borrow.Author.Tests.{not-true, not-false}
 use Rattle.rules.specs.RoomAndSoundLedger.{Ledger}
 use Rattle.rules.specs.AnswerNumbers.{Reply, UnsoundLedger, replyOf, Outcome}
 use Rattle.contents.specs.Room.{IsRoom, SoundRoom, Performs, Answers}
 use Rattle.soundness.specs.Facts.{Decides}
-use Rattle.ledger.specs.Tells.{Tells}
 
 module _ (f : Ledger → Outcome) (before : List ℕ) (r : Bool) (decides : Decides (SoundRoom before) r) where
   -- "24 is given exactly when it isn't sound", and nothing changes
@@ -26,11 +25,3 @@ module _ (f : Ledger → Outcome) (before : List ℕ) (r : Bool) (decides : Deci
     sound-room = performs;
     other = λ no-room. absurd (let s = known e in no-room (s .ledger) (s .is-room));
   }
-
--- the same of a read
-module _ (f : Ledger → Reply) (memory : List ℕ) (r : Bool) (decides : Decides (SoundRoom memory) r) where
-  pub untold : not r ≡ true → Tells f memory (replyOf UnsoundLedger)
-  untold e = record { sound-room = λ L room. absurd (decides .fails (not-true r e) (record { ledger = L; is-room = room })); other = λ no-room. refl }
-
-  pub told : not r ≡ false → (reply : Reply) → ((L : Ledger) → IsRoom memory L → reply ≡ f L) → Tells f memory reply
-  told e reply reads = record { sound-room = reads; other = λ no-room. absurd (let s = decides .holds (not-false r e) in no-room (s .ledger) (s .is-room)) }

@@ -14,15 +14,14 @@ use Rattle.rules.proofs.Tests.{by-bool}
 use Rattle.contents.specs.Contents.{roomSize}
 use Rattle.contents.specs.Room.{IsRoom, SoundRoom, Answers}
 use Rattle.contents.proofs.Decoding.{canonical}
 use Rattle.soundness.specs.Facts.{Decides}
 use Rattle.soundness.specs.declared.Made.{Made}
 use Rattle.soundness.specs.Making.{Makes}
 use Rattle.soundness.proofs.Fresh.{made-some}
-use Rattle.ledger.specs.Tells.{Tells}
 
 module _ (before : List ℕ) where
   -- the memory is the room of a sound ledger or of none, as `soundness::is_sound` answers of any memory
-  by-soundness : (P : Type 0) (b : Bool) → Decides (SoundRoom before) b → ((L : Ledger) → IsRoom before L → P) → (((L : Ledger) → IsRoom before L → ⊥) → P) → P
+  pub by-soundness : (P : Type 0) (b : Bool) → Decides (SoundRoom before) b → ((L : Ledger) → IsRoom before L → P) → (((L : Ledger) → IsRoom before L → ⊥) → P) → P
   by-soundness P b decides sound other =
       by-bool (λ _. P) b (λ e. let s = decides .holds e in sound (s .ledger) (s .is-room)) (λ e. other (λ L room. decides .fails e (record { ledger = L; is-room = room })))
 
@@ -37,9 +36,6 @@ module _ (before : List ℕ) where
 
     pub same-bytes : (L : Ledger) → IsRoom before L → All IsByte before → f L .ledger ≡ L → after ≡ before
     same-bytes L room before-bytes kept = canonical after before L bytes before-bytes (subst (IsRoom after) kept (answers .sound-room L room .room)) room
-
-  pub same-reading : (f : Ledger → Reply) (r s : Reply) → Tells f before r → Tells f before s → (b : Bool) → Decides (SoundRoom before) b → r ≡ s
-  same-reading f r s one two b decides = by-soundness _ b decides (λ L room. one .sound-room L room ∙ sym (two .sound-room L room)) (λ none. one .other none ∙ sym (two .other none))
 
 -- A ledger that is made is a sound one, in its room.
 module _ (names reservations : ℕ) (L : Ledger) (is-made : made names reservations ≡ some L) (before : List ℕ) (size : length before ≡ roomSize names reservations) (r : Made) (after : List ℕ) where

@@ -1,0 +1,49 @@
+-- `answer_bytes::write_named_field` meets its contract: the field's byte and the word stand behind the name.
+use mathlib.Core.Path.{_≡_, _∙_}
+use lib.ListN.{length}
+use Rattle.answer_bytes.proofs.Parts.{byte-is, number-written, name-written, value-behind}
+use borrow.Author.Needs.{needs}
+use Rattle.answer_bytes.proofs.write_named_field.Statement.{statement}
+use Rattle.answer_bytes.proofs.write_named_field.Tie as tie
+
+-- an array has its 24 bytes; from where the function returns, search does not look back as far
+held : (c : tie.Start) → length (c .args .name .bytes) ≡ 24
+held c = search needs
+
+returns : tie.Need-returns
+returns c v w is-field is-word =
+    let at-word = c .before .before in
+    let at-field = at-word .before .before .before .before in
+    let at-name = at-field .before .before .before .before in
+    let at-number = at-name .before .before .before .before in
+    let s = at-number .before .before .before .before in
+    let named = name-written (s .args .name) (held s) (s .pre .1) (number-written (at-number .write1 .ensures)) (at-name .write-name .ensures) in
+    let field = value-behind named 1 _ v is-field (at-field .write12 .ensures ∙ byte-is (s .args .field)) in
+    value-behind field 8 _ w is-word (at-word .write8 .ensures)
+
+pub write-named-field-spec : {M : Type 1} → statement M
+write-named-field-spec =
+    tie.close
+    (tie.spec
+    (λ c. search needs)
+    (λ c. search needs)
+    (λ c. search needs)
+    (λ c. search needs)
+    (λ c. search needs)
+    (λ c. search needs)
+    (λ c. search needs)
+    (λ c κs. search needs)
+    (λ c. search needs)
+    (λ c. search needs)
+    (λ c. search needs)
+    (λ c κs. search needs)
+    (λ c. search needs)
+    (λ c. search needs)
+    (λ c. search needs)
+    (λ c κs. search needs)
+    (λ c. search needs)
+    (λ c. search needs)
+    (λ c. search needs)
+    (λ c κs. search needs)
+    (λ c. search needs)
+    returns)

@@ -1,0 +1,6 @@
+pub mod BothTotals
+pub mod Certifying
+pub mod Adding
+pub mod OverPlaces
+pub mod Summarizing
+pub mod Taking

@@ -1,0 +1,3 @@
+pub mod Codes
+pub mod Sized
+pub mod Supplied
