@@ -14,7 +14,7 @@ ghost use Prim.Native.Nat.{ℕ};
 ghost use lib.IntN.{pos};
 ghost use lib.ListN.{length};
 ghost use Rattle.rules.specs.RoomAndSoundLedger.{Ledger};
-ghost use Rattle.rules.specs.SnapshotsMigrationCertificates.{Row, Snapshot, snapshotOfBytes, accountRows, conservation, committedRowsTotal, totalsFit, isNone, certificate, certificateOfLedger, conservationProof};
+ghost use Rattle.rules.specs.SnapshotsMigrationCertificates.{Row, Snapshot, snapshotOfBytes, accountRows, conservation, committedRowsTotal, totalsFit, isNone, certificate, certificateOfSnapshot, certificateOfLedger, conservationProof};
 ghost use Rattle.snapshot_reader.specs.Standing.{IsSnapshot, ShortNames};
 ghost use Rattle.totals.specs.Totals.{valueOf};
 ghost use Rattle.contents.specs.Room.{SoundRoom, IsRoom, Performs};
@@ -169,7 +169,7 @@ fn certify(
 }
 
 // "Certificate over a supplied snapshot and a given since": two passes over the rows, one for the totals and one for the balance.
-pub fn of_snapshot(bytes: &[u8], since: Microcents) -> Certificate
+fn of_snapshot(bytes: &[u8], since: Microcents) -> Certificate
     requires { ⌜ ShortNames (now bytes) ⌝ }
     ensures { λ r. ⌜ ((s : Snapshot) → snapshotOfBytes (now (bytes .entry)) ≡ some s → certificateReply r ≡ certificate s (since .0)) ⌝ }
 {
@@ -179,6 +179,17 @@ pub fn of_snapshot(bytes: &[u8], since: Microcents) -> Certificate
     let balanced = is_balanced(bytes);
     let totals = totals_of_rows(bytes);
     certify(version, rows, active, balanced, totals, since)
+}
+
+// 19, and else the certificate.
+pub fn of_supplied(bytes: &[u8], since: Microcents) -> Certified
+    requires { ⌜ IsSnapshot (now bytes) ⌝ }
+    ensures { λ r. ⌜ ((s : Snapshot) → snapshotOfBytes (now (bytes .entry)) ≡ some s → certifiedReply r ≡ certificateOfSnapshot (since .0) s) ⌝ }
+{
+    if snapshot_reader::has_long_name(bytes) {
+        return Certified::NameTooLong;
+    }
+    Certified::Certificate(of_snapshot(bytes, since))
 }
 
 // "the baseline moves, only if the totals fit and the total is larger": a ledger's committed total is never negative.

@@ -9,10 +9,10 @@ ghost use Prim.Native.Nat.{ℕ, _≤_};
 ghost use mathlib.Core.List.{List, []};
 ghost use Rattle.rules.specs.Lists.{any};
 ghost use Rattle.rules.specs.RoomAndSoundLedger.{same};
-ghost use Rattle.rules.specs.SnapshotsMigrationCertificates.{Snapshot, snapshotOfBytes, rowConservation, conservation, rowValidation, rowsValidation, validation};
+ghost use Rattle.rules.specs.SnapshotsMigrationCertificates.{Snapshot, snapshotOfBytes, rowConservation, conservation, rowValidation, rowsValidation, validation, status};
 ghost use Rattle.names.specs.Names.{spelled};
-ghost use Rattle.snapshot_reader.specs.Standing.{ShortNames, RowOf};
-ghost use Rattle.validation.specs.Judgement.{refusalOf, refusalIn, nameless, rowWith, seenIn};
+ghost use Rattle.snapshot_reader.specs.Standing.{IsSnapshot, ShortNames, RowOf};
+ghost use Rattle.validation.specs.Judgement.{refusalOf, refusalIn, judgedReply, nameless, rowWith, seenIn};
 
 // What is said of a snapshot: a check that is refused hands its refusal straight up. A name that it carries stands beside it, since an enum holds no array.
 pub enum Verdict {
@@ -193,5 +193,17 @@ pub fn validation(bytes: &[u8]) -> Judged
     let Verdict::Done = verdict else {
         return judged;
     };
+    conservation(bytes)
+}
+
+// "conservation status of a snapshot", 19 before it: two passes over the rows.
+pub fn status(bytes: &[u8]) -> Judged
+    requires { ⌜ IsSnapshot (now bytes) ⌝ }
+    ensures answer { λ r. ⌜ ((s : Snapshot) → snapshotOfBytes (now (bytes .entry)) ≡ some s → judgedReply r ≡ status s) ⌝ }
+    ensures short { λ r. ⌜ r .name .length ≤ 24 ⌝ }
+{
+    if snapshot_reader::has_long_name(bytes) {
+        return nameless(Verdict::NameTooLong);
+    }
     conservation(bytes)
 }

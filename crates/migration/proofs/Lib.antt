@@ -1,0 +1,3 @@
+pub mod MigratedBytes
+pub mod Refusing
+pub mod Untouched

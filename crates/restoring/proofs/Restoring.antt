@@ -1,0 +1,126 @@
+-- The step that both restores share, over what a form says of the version: a refusal leaves the room as it was, and else it holds the ledger restored.
+use mathlib.Core.Path.{_≡_, refl, sym, ap, subst, _∙_}
+use mathlib.Core.Logic.{_≢_}
+use mathlib.Core.List.{List, []}
+use mathlib.Core.Option.{Option, none, some}
+use Prim.Native.Nat.{ℕ, _≤_}
+use native.Mathlib.Omega.{arith}
+use borrow.Author.Tests.{ltb-false}
+use lib.ListN.{length, getD}
+use mir.Syntax.{w8}
+use mir.Val.{Fits}
+use Rattle.rules.specs.RoomAndSoundLedger.{Name, Ledger, Sound}
+use Rattle.rules.specs.AnswerNumbers.{Refusal, NameTooLong, Outcome, sound, done, onLent}
+use Rattle.rules.specs.SnapshotsMigrationCertificates.{Snapshot, snapshotOfBytes, andThen, validation, restored, orElse, restoreVersion, recoveryVersion, restoreRefusal, restore, recoveryRestore, replyOr}
+use Rattle.rules.specs.Frames.{restoreFrom, recoverFrom, answer}
+use Rattle.rules.specs.Domain.{SnapshotFits}
+use Rattle.rules.proofs.Tests.{none-some}
+use Rattle.rules.proofs.Checks.{both-pass, check-passes}
+use Rattle.rules.proofs.SnapshotBytes.{snapshot-only}
+use Rattle.rules.proofs.SnapshotSoundness.{answer-sound}
+use Rattle.names.specs.Names.{spelled}
+use Rattle.numbers.proofs.Bytes.{all-bytes}
+use Rattle.snapshot_reader.specs.Standing.{IsSnapshot}
+use Rattle.validation.specs.declared.Verdict.{Verdict}
+use Rattle.validation.specs.declared.Verdict.the-variants as verdict
+use Rattle.validation.specs.declared.Judged.{Judged}
+use Rattle.validation.specs.Judgement.{refusalOf, refusalIn, nameless, judgedReply}
+use Rattle.validation.proofs.Deciding.{NotDone, refuses}
+use Rattle.records.specs.Records.{sizesOf}
+use Rattle.records.specs.declared.Sizes.{Sizes}
+use Rattle.contents.specs.Room.{IsRoom, Performs}
+use Rattle.lookup.proofs.SoundRoom.{sizes-are}
+use Rattle.filling.specs.Filling.{Takes, Holds}
+
+pub nameless-short : {j : Judged} {v : Verdict} → j ≡ nameless v → j .name .length ≤ 24
+nameless-short e = subst (λ j. j .name .length ≤ 24) (sym e) (omega arith)
+
+-- ── what was checked decides the answer and the ledger ─────────────────────────────────────────
+
+refusal-given : (a : Name) (v : Verdict) → NotDone v → refusalOf a v ≢ none
+unfolding andThen
+refusal-given a v h e = none-some (sym e ∙ refuses a v (some NameTooLong) h ∙ ap (λ o. andThen o (some NameTooLong)) e)
+
+module _ (L after : Ledger) where
+  same-reply : (o : Option Refusal) → replyOr o (done []) ≡ orElse o L after .reply
+  unfolding replyOr orElse
+  same-reply none = refl
+  same-reply (some x) = refl
+
+  ledger-kept : (o : Option Refusal) → o ≢ none → orElse o L after .ledger ≡ L
+  unfolding orElse
+  ledger-kept none h = absurd (h refl)
+  ledger-kept (some x) h = refl
+
+  ledger-after : (o : Option Refusal) → o ≡ none → orElse o L after .ledger ≡ after
+  unfolding orElse
+  ledger-after o e = ap (λ o. orElse o L after .ledger) e
+
+-- a snapshot that no check refuses is one that the ledger takes
+takes : {names : ℕ} {bytes : List ℕ} (of-version : Option Refusal) (s : Snapshot) → snapshotOfBytes bytes ≡ some s → restoreRefusal of-version names s ≡ none → Takes names bytes
+unfolding restoreRefusal
+takes {names} of-version s is-read e =
+    let (short, e) = check-passes _ _ _ e in
+    let (_, e) = both-pass of-version _ e in
+    let (valid, e) = both-pass (validation s) _ e in
+    let (few, _) = check-passes _ _ _ e in
+    record { snapshot = s; is-read = is-read; short = short; valid = valid; few = ltb-false names (length (s .rows)) few }
+
+-- ── a restore, by what its form says of the version ────────────────────────────────────────────
+
+abbrev pub restoreBy : (form : ℕ → Option Refusal) → Ledger → Snapshot → Outcome
+restoreBy form L s = orElse (restoreRefusal (form (s .version)) (L .T) s) L (restored L s)
+
+-- what was checked is what the form asks for
+pub record Told (form : ℕ → Option Refusal) (room bytes : List ℕ) (j : Judged) : Type 0 where
+  pub is : (s : Snapshot) → snapshotOfBytes bytes ≡ some s → (L : Ledger) → IsRoom room L → refusalIn j ≡ restoreRefusal (form (s .version)) (L .T) s
+
+-- the form's own checks keep a sound ledger sound
+abbrev pub Keeps : (form : ℕ → Option Refusal) → Type 0
+Keeps form = (L : Ledger) → Sound L → (s : Snapshot) → SnapshotFits s → Sound (restoreBy form L s .ledger)
+
+pub restore-keeps : Keeps restoreVersion
+unfolding answer onLent restore
+restore-keeps L known s fits = answer-sound (sound L) known (restoreFrom s) fits
+
+pub recovery-keeps : Keeps recoveryVersion
+unfolding answer onLent recoveryRestore
+recovery-keeps L known s fits = answer-sound (sound L) known (recoverFrom s) fits
+
+pub checked : {form : ℕ → Option Refusal} {room bytes : List ℕ} {j : Judged} {sizes : Sizes} {version : ℕ} → sizes ≡ sizesOf room
+    → ((s : Snapshot) → snapshotOfBytes bytes ≡ some s → version ≡ s .version)
+    → (of-version : Verdict) → refusalOf [] of-version ≡ form version
+    → ((s : Snapshot) → snapshotOfBytes bytes ≡ some s → refusalIn j ≡ restoreRefusal (refusalOf [] of-version) (sizes .names) s) → Told form room bytes j
+checked {form} {room} {sizes} are is-version of-version by-form judged = record {
+  is = λ s e L is-room.
+      let names : sizes .names ≡ L .T = ap (λ s. s .names) (are ∙ sizes-are room L is-room) in
+      let same-version = by-form ∙ ap form (is-version s e) in
+      judged s e ∙ λ i. restoreRefusal (same-version i) (names i) s;
+}
+
+module _ {form : ℕ → Option Refusal} {room bytes : List ℕ} {j : Judged} (told : Told form room bytes j) where
+  pub refused : NotDone (j .verdict) → (s : Snapshot) → snapshotOfBytes bytes ≡ some s → (L : Ledger) → IsRoom room L → Performs (λ K. restoreBy form K s) L (judgedReply j) room
+  refused other s e L is-room =
+      let is = told .is s e L is-room in
+      record {
+        answer = ap (λ o. replyOr o (done [])) is ∙ same-reply L (restored L s) _;
+        room = subst (IsRoom room) (sym (ledger-kept L (restored L s) _ (λ passed. refusal-given (spelled (j .name)) (j .verdict) other (is ∙ passed)))) is-room;
+      }
+
+  module _ (passed : j .verdict ≡ verdict.Done) where
+    none-refused : (s : Snapshot) → snapshotOfBytes bytes ≡ some s → (L : Ledger) → IsRoom room L → restoreRefusal (form (s .version)) (L .T) s ≡ none
+    none-refused s e L is-room = sym (told .is s e L is-room) ∙ ap (refusalOf (spelled (j .name))) passed
+
+    pub taken : IsSnapshot bytes → (L : Ledger) → IsRoom room L → Takes (L .T) bytes
+    taken known L is-room = takes (form (known .snapshot .version)) (known .snapshot) (known .is-read) (none-refused (known .snapshot) (known .is-read) L is-room)
+
+    pub replaced : {after : List ℕ} → ((L : Ledger) → IsRoom room L → (s : Snapshot) → snapshotOfBytes bytes ≡ some s → Holds (restored L s) room after) → ((i : ℕ) → Fits w8 (getD bytes i 0)) → Keeps form
+        → (s : Snapshot) → snapshotOfBytes bytes ≡ some s → (L : Ledger) → IsRoom room L → Performs (λ K. restoreBy form K s) L (judgedReply j) after
+    replaced {after} filled are-bytes keeps s e L is-room =
+        let is = ledger-after L (restored L s) _ (none-refused s e L is-room) in
+        let holds = filled L is-room s e in
+        let sound = keeps L (is-room .sound) s (snapshot-only bytes (all-bytes bytes are-bytes) s e .1) in
+        record {
+          answer = ap (λ o. replyOr o (done [])) (told .is s e L is-room) ∙ same-reply L (restored L s) _;
+          room = subst (IsRoom after) (sym is) (record { size = holds .size ∙ is-room .size; holds = holds .contents; sound = subst Sound is sound });
+        }

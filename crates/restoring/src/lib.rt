@@ -1,0 +1,102 @@
+// Restore and recovery restore into a ledger already known to be sound, of bytes already known to be a snapshot: all of it, or a refusal and nothing.
+use validation::Judged;
+use validation::Verdict;
+ghost use mathlib.Core.Path.{_≡_};
+ghost use mathlib.Core.List.{[]};
+ghost use mathlib.Core.Option.{some};
+ghost use Prim.Native.Nat.{_≤_};
+ghost use Rattle.rules.specs.RoomAndSoundLedger.{Ledger};
+ghost use Rattle.rules.specs.SnapshotsMigrationCertificates.{Snapshot, snapshotOfBytes, restoreVersion, recoveryVersion, restoreRefusal, restore, recoveryRestore};
+ghost use Rattle.snapshot_reader.specs.Standing.{IsSnapshot};
+ghost use Rattle.validation.specs.Judgement.{refusalOf, refusalIn, judgedReply};
+ghost use Rattle.contents.specs.Room.{SoundRoom, IsRoom, Performs};
+
+const M: u64 = 9223372036854775807;
+
+// "version without bit 63 or with low bits 0 gives 13, empty name, field 4, value = version or M if larger"
+fn restore_version(version: u64) -> Verdict
+    ensures { λ r. ⌜ refusalOf [] r ≡ restoreVersion version ⌝ }
+{
+    if !big_endian::has_tag(version) {
+        return Verdict::NegativeLedgerField(4, numbers::amount(version));
+    }
+    if big_endian::fence_of(version) == 0 {
+        return Verdict::NegativeLedgerField(4, numbers::amount(M));
+    }
+    Verdict::Done
+}
+
+// "The recovery form gives 18 without bit 63, then 17 carrying 0"
+fn recovery_version(version: u64) -> Verdict
+    ensures { λ r. ⌜ refusalOf [] r ≡ recoveryVersion version ⌝ }
+{
+    if !big_endian::has_tag(version) {
+        return Verdict::LegacySnapshotRequiresMigration;
+    }
+    if big_endian::fence_of(version) == 0 {
+        return Verdict::InvalidAllocatorFence(0);
+    }
+    Verdict::Done
+}
+
+// 19, then what the version gave, "then validation; more rows than T gives 20": three passes over the rows, one of which compares each name with those
+// before it.
+fn refusal(names: u64, bytes: &[u8], of_version: Verdict) -> Judged
+    requires { ⌜ IsSnapshot (now bytes) ⌝ }
+    ensures refusal { λ r. ⌜ ((s : Snapshot) → snapshotOfBytes (now (bytes .entry)) ≡ some s → refusalIn r ≡ restoreRefusal (refusalOf [] «of_version») names s) ⌝ }
+    ensures short { λ r. ⌜ r .name .length ≤ 24 ⌝ }
+{
+    if snapshot_reader::has_long_name(bytes) {
+        return validation::nameless(Verdict::NameTooLong);
+    }
+    let Verdict::Done = of_version else {
+        return validation::nameless(of_version);
+    };
+    let judged = validation::validation(bytes);
+    let verdict = judged.verdict;
+    let Verdict::Done = verdict else {
+        return judged;
+    };
+    if names < snapshot_reader::count(bytes) {
+        return validation::nameless(Verdict::NamesFull);
+    }
+    validation::nameless(Verdict::Done)
+}
+
+pub fn restore(room: &mut [u8], bytes: &[u8]) -> Judged
+    requires { ⌜ SoundRoom (now room) × IsSnapshot (now bytes) ⌝ }
+    ensures performs { λ r. ⌜ ((s : Snapshot) → snapshotOfBytes (now (bytes .entry)) ≡ some s → (L : Ledger) → IsRoom (now (room .entry)) L → Performs (λ K. restore K s) L (judgedReply r) (now (room .exit))) ⌝ }
+    ensures short { λ r. ⌜ r .name .length ≤ 24 ⌝ }
+{
+    let sizes = records::load_sizes(room);
+    let judged = refusal(
+        sizes.names,
+        bytes,
+        restore_version(snapshot_reader::version(bytes)),
+    );
+    let verdict = judged.verdict;
+    let Verdict::Done = verdict else {
+        return judged;
+    };
+    filling::fill(room, bytes);
+    judged
+}
+
+pub fn recovery_restore(room: &mut [u8], bytes: &[u8]) -> Judged
+    requires { ⌜ SoundRoom (now room) × IsSnapshot (now bytes) ⌝ }
+    ensures performs { λ r. ⌜ ((s : Snapshot) → snapshotOfBytes (now (bytes .entry)) ≡ some s → (L : Ledger) → IsRoom (now (room .entry)) L → Performs (λ K. recoveryRestore K s) L (judgedReply r) (now (room .exit))) ⌝ }
+    ensures short { λ r. ⌜ r .name .length ≤ 24 ⌝ }
+{
+    let sizes = records::load_sizes(room);
+    let judged = refusal(
+        sizes.names,
+        bytes,
+        recovery_version(snapshot_reader::version(bytes)),
+    );
+    let verdict = judged.verdict;
+    let Verdict::Done = verdict else {
+        return judged;
+    };
+    filling::fill(room, bytes);
+    judged
+}
