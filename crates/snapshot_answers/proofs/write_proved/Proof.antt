@@ -1,0 +1,28 @@
+-- `snapshot_answers::write_proved` meets its contract: each arm writes the case that it matched.
+use mathlib.Core.Path.{ap}
+use borrow.Author.Needs.{needs}
+use Rattle.answer_bytes.proofs.Arms.{matched}
+use Rattle.certificates.specs.Certified.{provedReply}
+use Rattle.snapshot_answers.proofs.write_proved.Statement.{statement}
+use Rattle.snapshot_answers.proofs.write_proved.Tie as tie
+
+pub write-proved-spec : {M : Type 1} → statement M
+write-proved-spec =
+    tie.close
+    (tie.spec
+    (λ c. search needs)
+    (λ c κs. search needs)
+    (λ c. search needs)
+    (λ c κs. search needs)
+    (λ c. search needs)
+    (λ c κs. search needs)
+    (λ c. search needs)
+    (λ c κs. search needs)
+    (λ c. search needs)
+    (λ c. let call = c .before .before in matched (ap provedReply (call .before .before .before .proved .given .1)) (call .write-proof .ensures))
+    (λ c. search needs)
+    (λ c. let call = c .before .before in matched (ap provedReply (call .before .before .enum-told .given .1)) (call .write-number .ensures))
+    (λ c. search needs)
+    (λ c. let call = c .before .before in matched (ap provedReply (call .before .before .enum-told2 .given .1)) (call .write-number2 .ensures))
+    (λ c. search needs)
+    (λ c. let call = c .before .before in matched (ap provedReply (call .before .before .enum-told3 .given .1)) (call .write-number3 .ensures)))
