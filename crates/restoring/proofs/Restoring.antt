@@ -32,9 +32,6 @@ use Rattle.contents.specs.Room.{IsRoom, Performs}
 use Rattle.lookup.proofs.SoundRoom.{sizes-are}
 use Rattle.filling.specs.Filling.{Takes, Holds}
 
-pub nameless-short : {j : Judged} {v : Verdict} → j ≡ nameless v → j .name .length ≤ 24
-nameless-short e = subst (λ j. j .name .length ≤ 24) (sym e) (omega arith)
-
 -- ── what was checked decides the answer and the ledger ─────────────────────────────────────────
 
 refusal-given : (a : Name) (v : Verdict) → NotDone v → refusalOf a v ≢ none

@@ -7,6 +7,7 @@ use snapshot_writer::Snapshotted;
 use validation::Judged;
 use validation::Verdict;
 ghost use mathlib.Core.Path.{_≡_};
+ghost use Prim.Native.Nat.{_≤_};
 ghost use lib.ListN.{length};
 ghost use Rattle.rules.specs.SnapshotsMigrationCertificates.{snapshotOfBytes, snapshot, restore, recoveryRestore, migrate, status, certificateOfSnapshot, certificateOfLedger, conservationProof};
 ghost use Rattle.contents.specs.Room.{Answers};
@@ -29,7 +30,8 @@ pub fn snapshot(room: &mut [u8], output: &mut [u8]) -> Snapshotted
 
 // One pass over the bytes to read them, three to judge them, in one of which each name is compared with those before it, and one to put the rows.
 pub fn restore(room: &mut [u8], bytes: &[u8]) -> Judged
-    ensures { λ r. ⌜ AnswersSnapshot restore (snapshotOfBytes (now (bytes .entry))) (now (room .entry)) (judgedReply r) (now (room .exit)) ⌝ }
+    ensures answers { λ r. ⌜ AnswersSnapshot restore (snapshotOfBytes (now (bytes .entry))) (now (room .entry)) (judgedReply r) (now (room .exit)) ⌝ }
+    ensures short { λ r. ⌜ r .name .length ≤ 24 ⌝ }
 {
     if !snapshot_reader::is_snapshot(bytes) {
         return validation::nameless(Verdict::BadFrame);
@@ -42,7 +44,8 @@ pub fn restore(room: &mut [u8], bytes: &[u8]) -> Judged
 
 // As a restore.
 pub fn recovery_restore(room: &mut [u8], bytes: &[u8]) -> Judged
-    ensures { λ r. ⌜ AnswersSnapshot recoveryRestore (snapshotOfBytes (now (bytes .entry))) (now (room .entry)) (judgedReply r) (now (room .exit)) ⌝ }
+    ensures answers { λ r. ⌜ AnswersSnapshot recoveryRestore (snapshotOfBytes (now (bytes .entry))) (now (room .entry)) (judgedReply r) (now (room .exit)) ⌝ }
+    ensures short { λ r. ⌜ r .name .length ≤ 24 ⌝ }
 {
     if !snapshot_reader::is_snapshot(bytes) {
         return validation::nameless(Verdict::BadFrame);
@@ -57,6 +60,7 @@ pub fn recovery_restore(room: &mut [u8], bytes: &[u8]) -> Judged
 pub fn migrate(bytes: &[u8], fence: u64, output: &mut [u8]) -> Judged
     ensures answer { λ r. ⌜ migratedReply (length (now (bytes .entry))) (now (output .exit)) r ≡ onSupplied (migrate (length (now (output .entry))) fence) (snapshotOfBytes (now (bytes .entry))) ⌝ }
     ensures output { λ r. ⌜ now (output .exit) ≡ outputAfter (migratedReply (length (now (bytes .entry))) (now (output .exit)) r) (now (output .entry)) ⌝ }
+    ensures short { λ r. ⌜ r .name .length ≤ 24 ⌝ }
 {
     if !snapshot_reader::is_snapshot(bytes) {
         return validation::nameless(Verdict::BadFrame);
@@ -66,7 +70,8 @@ pub fn migrate(bytes: &[u8], fence: u64, output: &mut [u8]) -> Judged
 
 // "conservation status of a snapshot": three passes over the bytes.
 pub fn status(bytes: &[u8]) -> Judged
-    ensures { λ r. ⌜ judgedReply r ≡ onSupplied status (snapshotOfBytes (now (bytes .entry))) ⌝ }
+    ensures answer { λ r. ⌜ judgedReply r ≡ onSupplied status (snapshotOfBytes (now (bytes .entry))) ⌝ }
+    ensures short { λ r. ⌜ r .name .length ≤ 24 ⌝ }
 {
     if !snapshot_reader::is_snapshot(bytes) {
         return validation::nameless(Verdict::BadFrame);

@@ -11,8 +11,7 @@ use Rattle.rules.specs.AnswerNumbers.{Refusal, NamesFull}
 use Rattle.rules.specs.SnapshotsMigrationCertificates.{Snapshot, snapshotOfBytes, hasLongName, passes, _gives_else_, andThen, validation, restoreRefusal}
 use Rattle.names.specs.Names.{spelled}
 use Rattle.validation.specs.Judgement.{refusalOf, refusalIn}
-use Rattle.validation.proofs.Deciding.{decides, goes-on, refuses, passes-on}
-use Rattle.restoring.proofs.Restoring.{nameless-short}
+use Rattle.validation.proofs.Deciding.{decides, goes-on, refuses, passes-on, nameless-short}
 use Rattle.restoring.proofs.refusal.Statement.{statement}
 use Rattle.restoring.proofs.refusal.Tie as tie
 

@@ -1,13 +1,11 @@
 -- `validation::status` meets its contract: 19, then conservation.
-use mathlib.Core.Path.{_≡_, sym, ap, subst, _∙_}
+use mathlib.Core.Path.{_≡_, sym, ap, _∙_}
 use mathlib.Core.List.{[]}
-use Prim.Native.Nat.{_≤_}
-use native.Mathlib.Omega.{arith}
 use borrow.Author.Needs.{needs}
 use Rattle.rules.specs.AnswerNumbers.{done}
 use Rattle.rules.specs.SnapshotsMigrationCertificates.{replyOr, status}
 use Rattle.validation.specs.Judgement.{refusalIn, judgedReply}
-use Rattle.validation.proofs.Deciding.{decides, goes-on}
+use Rattle.validation.proofs.Deciding.{decides, goes-on, nameless-short}
 use Rattle.validation.proofs.status.Statement.{statement}
 use Rattle.validation.proofs.status.Tie as tie
 
@@ -15,7 +13,7 @@ returns : tie.Need-returns
 unfolding status
 returns c = (
   λ s e. ap judgedReply (c .nameless .ensures) ∙ ap (λ o. replyOr o (done [])) (sym (decides _ _ _ (sym (c .before .before .has-long-name .ensures s e) ∙ c .before .if1 .taken))),
-  subst (λ j. j .name .length ≤ 24) (sym (c .nameless .ensures)) (omega arith),
+  nameless-short (c .nameless .ensures),
 )
 
 conservation-requires : tie.Need-conservation-requires

@@ -1,5 +1,5 @@
 -- `validation::validation` meets its contract: the active count, then the rows, then their conservation.
-use mathlib.Core.Path.{_≡_, sym, ap, subst, _∙_}
+use mathlib.Core.Path.{_≡_, sym, ap, _∙_}
 use mathlib.Core.Option.{some}
 use Prim.Native.Nat.{_≤_, _<_}
 use native.Mathlib.Omega.{arith}
@@ -9,7 +9,7 @@ use Rattle.rules.specs.AnswerNumbers.{ActiveReservations}
 use Rattle.rules.specs.SnapshotsMigrationCertificates.{Snapshot, snapshotOfBytes, andThen, conservation, validation}
 use Rattle.names.specs.Names.{spelled}
 use Rattle.validation.specs.Judgement.{refusalIn}
-use Rattle.validation.proofs.Deciding.{decides, goes-on, refuses, passes-on}
+use Rattle.validation.proofs.Deciding.{decides, goes-on, refuses, passes-on, nameless-short}
 use Rattle.validation.proofs.validation.Statement.{statement}
 use Rattle.validation.proofs.validation.Tie as tie
 
@@ -20,7 +20,7 @@ returns c = (
       let active = c .before .before .active in
       let some-live : 0 < s .active = omega (arith, active .ensures s e, c .before .if1 .taken) in
       ap refusalIn (c .nameless .ensures) ∙ ap (λ n. some (ActiveReservations n)) (active .ensures s e) ∙ sym (decides _ _ _ (lt-ltb 0 (s .active) some-live)),
-  subst (λ j. j .name .length ≤ 24) (sym (c .nameless .ensures)) (omega arith),
+  nameless-short (c .nameless .ensures),
 )
 
 -- none live: the rows decide, and then their conservation
