@@ -1,7 +1,7 @@
 -- The row of a place, an answer that hands out a snapshot's bytes, and the output room after it.
 use mathlib.Core.Bool.{cond}
 use mathlib.Core.List.{List, [], _∷_, _++_}
-use Prim.Native.Nat.{ℕ, _+_}
+use Prim.Native.Nat.{ℕ, _+_, _≤_}
 use lib.Dec.{eqb}
 use lib.ListN.{length, take, drop}
 use Rattle.rules.specs.AnswerNumbers.{Value, Amount, Identifier, Version, Fence, Count, Field, YesOrNo, TheName, SnapshotBytes, Reply, AllocatorExhausted, OutputTooShort, UnsoundLedger, done, replyOf}
@@ -46,3 +46,10 @@ snapshotReply output (snapshotted.Written size) = done (SnapshotBytes (take size
 snapshotReply output snapshotted.AllocatorExhausted = replyOf AllocatorExhausted
 snapshotReply output snapshotted.OutputTooShort = replyOf OutputTooShort
 snapshotReply output snapshotted.UnsoundLedger = replyOf UnsoundLedger
+
+-- so that the size told can be added to and sliced by, also where the output is just as long
+abbrev pub SizeWithin : (output : ℕ) → Snapshotted → Type 0
+SizeWithin output (snapshotted.Written size) = size ≤ output
+SizeWithin output snapshotted.AllocatorExhausted = Unit {0}
+SizeWithin output snapshotted.OutputTooShort = Unit {0}
+SizeWithin output snapshotted.UnsoundLedger = Unit {0}

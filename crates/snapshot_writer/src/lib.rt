@@ -11,7 +11,7 @@ ghost use Rattle.rules.specs.RoomAndSoundLedger.{Ledger};
 ghost use Rattle.rules.specs.SnapshotsMigrationCertificates.{Row, rowBytes, accountRows, snapshotOf, tooShortFor, snapshot};
 ghost use Rattle.row_writer.specs.Rows.{WritesRows};
 ghost use Rattle.contents.specs.Room.{SoundRoom, IsRoom, Performs};
-ghost use Rattle.snapshot_writer.specs.Output.{rowSize, rowOfPlace, outputAfter, snapshotReply};
+ghost use Rattle.snapshot_writer.specs.Output.{rowSize, rowOfPlace, outputAfter, snapshotReply, SizeWithin};
 
 pub enum Snapshotted {
     Written(usize),
@@ -94,6 +94,7 @@ pub fn snapshot(room: &mut [u8], output: &mut [u8]) -> Snapshotted
     requires { ⌜ SoundRoom (now room) ⌝ }
     ensures performs { λ r. ⌜ ((L : Ledger) → IsRoom (now (room .entry)) L → Performs (snapshot (length (now (output .entry)))) L (snapshotReply (now (output .exit)) r) (now (room .exit))) ⌝ }
     ensures output { λ r. ⌜ now (output .exit) ≡ outputAfter (snapshotReply (now (output .exit)) r) (now (output .entry)) ⌝ }
+    ensures size { λ r. ⌜ SizeWithin (length (now (output .entry))) r ⌝ }
 {
     let Stamped::Next(head) = heads::stamp(records::load_head(room)) else {
         return Snapshotted::AllocatorExhausted;

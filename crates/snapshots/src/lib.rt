@@ -12,7 +12,7 @@ ghost use lib.ListN.{length};
 ghost use Rattle.rules.specs.SnapshotsMigrationCertificates.{snapshotOfBytes, snapshot, restore, recoveryRestore, migrate, status, certificateOfSnapshot, certificateOfLedger, conservationProof};
 ghost use Rattle.contents.specs.Room.{Answers};
 ghost use Rattle.validation.specs.Judgement.{judgedReply};
-ghost use Rattle.snapshot_writer.specs.Output.{outputAfter, snapshotReply};
+ghost use Rattle.snapshot_writer.specs.Output.{outputAfter, snapshotReply, SizeWithin};
 ghost use Rattle.migration.specs.Migrated.{migratedReply};
 ghost use Rattle.certificates.specs.Certified.{certifiedReply, provedReply};
 ghost use Rattle.snapshots.specs.Supplied.{AnswersSnapshot, onSupplied};
@@ -21,6 +21,7 @@ ghost use Rattle.snapshots.specs.Supplied.{AnswersSnapshot, onSupplied};
 pub fn snapshot(room: &mut [u8], output: &mut [u8]) -> Snapshotted
     ensures answers { λ r. ⌜ Answers (snapshot (length (now (output .entry)))) (now (room .entry)) (snapshotReply (now (output .exit)) r) (now (room .exit)) ⌝ }
     ensures output { λ r. ⌜ now (output .exit) ≡ outputAfter (snapshotReply (now (output .exit)) r) (now (output .entry)) ⌝ }
+    ensures size { λ r. ⌜ SizeWithin (length (now (output .entry))) r ⌝ }
 {
     if !soundness::is_sound(room) {
         return Snapshotted::UnsoundLedger;

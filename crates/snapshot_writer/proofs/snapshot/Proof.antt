@@ -39,7 +39,7 @@ stamps : (c : tie.After-stamp) (L : Ledger) → IsRoom (room (start c)) L → st
 stamps c L r = sym (c .stamp .ensures ∙ ap stampedHead (c .before .load-head .ensures ∙ head-is (room (start c)) L r))
 
 returns : tie.Need-returns
-returns c = let d = c .before .before in (λ L r. answers-exhausted (room (start d)) L r (length (output (start d))) (stamps d L r ∙ c .enum-told .given .1), refl)
+returns c = let d = c .before .before in (λ L r. answers-exhausted (room (start d)) L r (length (output (start d))) (stamps d L r ∙ c .enum-told .given .1), (refl, tt))
 
 -- ── the output measured ────────────────────────────────────────────────────────────────────────
 
@@ -54,7 +54,7 @@ returns-2 c =
     let h = c .before in
     let s = entry h in (
       λ L r. answers-short (room s) L r (length (output s)) _ (stamps (stamped h) L r ∙ h .before .before .before .head .given .1) (not-false _ (sym (h .has-room .ensures L r) ∙ not-true _ (c .if1 .taken))),
-      refl,
+      (refl, tt),
     )
 
 enough : (c : tie.Else1) (L : Ledger) → IsRoom (room (entry (c .before))) L → tooShortFor (length (output (entry (c .before)))) (snapshotOf L) ≡ false
@@ -104,7 +104,7 @@ returns-3 c =
     let s = entry (e .before) in (
       λ L r. answers-written (room s) L r (length (output s)) (head e) (stamps (stamped (e .before)) L r ∙ e .before .before .before .before .head .given .1) (enough e L r) (sizes .result) (sizes .ensures) _ _
           (into w L r .0) (p .put-head .ensures),
-      into w (s .pre .ledger) (s .pre .is-room) .1,
+      (into w (s .pre .ledger) (s .pre .is-room) .1, omega (arith, long e (s .pre .ledger) (s .pre .is-room), counted w .write-rows .ensures (s .pre .ledger) (s .pre .is-room) .end)),
     )
 
 pub snapshot-spec : {M : Type 1} → statement M

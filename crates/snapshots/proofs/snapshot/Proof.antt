@@ -7,7 +7,7 @@ use Rattle.snapshots.proofs.snapshot.Statement.{statement}
 use Rattle.snapshots.proofs.snapshot.Tie as tie
 
 returns : tie.Need-returns
-returns c = (refused _ _ _ (c .before .is-sound .ensures) (c .if1 .taken), refl)
+returns c = (refused _ _ _ (c .before .is-sound .ensures) (c .if1 .taken), (refl, tt))
 
 snapshot-requires : tie.Need-snapshot-requires
 snapshot-requires c κs = c .before .before .before .is-sound .ensures .holds (not-false _ (c .before .before .if1 .left))

@@ -1,0 +1,4 @@
+pub mod Performing
+pub mod Arms
+pub mod BehindTheNumber
+pub mod RoomForSnapshots

@@ -1,0 +1,14 @@
+-- `frames::limit` meets its contract.
+use mathlib.Core.Path.{refl}
+use borrow.Author.Needs.{needs}
+use Rattle.rules.specs.Frames.{answer}
+use Rattle.frames.proofs.Performing.{performed}
+use Rattle.frames.proofs.limit.Statement.{statement}
+use Rattle.frames.proofs.limit.Tie as tie
+
+returns : tie.Need-returns
+unfolding answer
+returns c L room = let written = c .before .before in performed (written .before .before .before .before .limit .ensures L room) (written .write-limited .ensures) refl
+
+pub limit-spec : {M : Type 1} → statement M
+limit-spec = tie.close (tie.spec (λ c κs. search needs) (λ c κs. search needs) (λ c. search needs) (λ c. search needs) returns)

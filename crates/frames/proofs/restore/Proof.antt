@@ -1,0 +1,14 @@
+-- `frames::restore` meets its contract.
+use mathlib.Core.Path.{refl}
+use borrow.Author.Needs.{needs}
+use Rattle.rules.specs.Frames.{answer}
+use Rattle.frames.proofs.Performing.{performed}
+use Rattle.frames.proofs.restore.Statement.{statement}
+use Rattle.frames.proofs.restore.Tie as tie
+
+returns : tie.Need-returns
+unfolding answer
+returns c L room s e = let written = c .before .before in performed (written .before .before .before .before .restore .ensures .0 s e L room) (written .write-judged .ensures) refl
+
+pub restore-spec : {M : Type 1} → statement M
+restore-spec = tie.close (tie.spec (λ c κs. search needs) (λ c κs. search needs) (λ c. search needs) (λ c. search needs) returns)

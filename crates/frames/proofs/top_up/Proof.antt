@@ -1,0 +1,14 @@
+-- `frames::top_up` meets its contract.
+use mathlib.Core.Path.{refl}
+use borrow.Author.Needs.{needs}
+use Rattle.rules.specs.Frames.{answer}
+use Rattle.frames.proofs.Performing.{performed}
+use Rattle.frames.proofs.top_up.Statement.{statement}
+use Rattle.frames.proofs.top_up.Tie as tie
+
+returns : tie.Need-returns
+unfolding answer
+returns c L room = let written = c .before .before in performed (written .before .before .before .before .top-up .ensures L room) (written .write-topped-up .ensures) refl
+
+pub top-up-spec : {M : Type 1} → statement M
+top-up-spec = tie.close (tie.spec (λ c κs. search needs) (λ c κs. search needs) (λ c. search needs) (λ c. search needs) returns)
