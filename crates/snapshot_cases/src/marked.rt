@@ -1,23 +1,34 @@
 // Document 01, "Marked cases", W11 and W12, and the whole ledger through a snapshot.
 use crate::calls;
-use crate::supplied;
 
 pub fn case_11(room: &mut [u8]) {
     calls::heading(b"W11");
-    let version_0 = supplied::NO_ROWS_VERSION_0;
-    let fence_0 = supplied::NO_ROWS_FENCE_0;
-    let fence_7 = supplied::NO_ROWS_FENCE_7;
     calls::make(room, 3, 2);
-    calls::restore(room, b"version 0", &version_0[..]);
-    calls::restore(room, b"2^63", &fence_0[..]);
-    calls::restore(room, b"2^63 + 7", &fence_7[..]);
+    calls::restore(
+        room,
+        b"version 0",
+        b"\x00\x00\x00\x00\x00\x00\x00\x00\x00\x00\x00\x00\x00\x00\x00\x00\x00\x00",
+    );
+    calls::restore(
+        room,
+        b"2^63",
+        b"\x80\x00\x00\x00\x00\x00\x00\x00\x00\x00\x00\x00\x00\x00\x00\x00\x00\x00",
+    );
+    calls::restore(
+        room,
+        b"2^63 + 7",
+        b"\x80\x00\x00\x00\x00\x00\x00\x07\x00\x00\x00\x00\x00\x00\x00\x00\x00\x00",
+    );
 }
 
 pub fn case_12(room: &mut [u8], output: &mut [u8]) {
     calls::heading(b"W12");
-    let below_m = supplied::FENCE_BELOW_M;
     calls::make(room, 3, 2);
-    calls::restore(room, b"fence M - 1", &below_m[..]);
+    calls::restore(
+        room,
+        b"fence M - 1",
+        b"\xff\xff\xff\xff\xff\xff\xff\xfe\x00\x00\x00\x00\x00\x00\x00\x00\x00\x01\x02Q1\x00\x00\x00\x00\x00\x00\x00d\x00\x00\x00\x00\x00\x00\x00d\x00\x00\x00\x00\x00\x00\x00\x00\x00\x00\x00\x00\x00\x00\x00\x00",
+    );
     calls::reserve(room, b"Q1", 1);
     calls::reserve(room, b"Q1", 1);
     calls::snapshot(room, output);
