@@ -1,0 +1,5 @@
+pub mod AnswerLines
+pub mod Decoded
+pub mod LineFound
+pub mod StaysKnown
+pub mod Stretch

@@ -1,0 +1,49 @@
+-- A line in the input: what was passed has no line feed, and the line feed stands behind it.
+use mathlib.Core.Path.{_≡_, sym, subst, ap, _∙_}
+use mathlib.Core.Logic.{_≢_}
+use mathlib.Core.List.{List, [], _∷_, _++_}
+use Prim.Native.Nat.{ℕ, suc, _+_, _-_, _≤_, _<_}
+use native.Mathlib.Omega.{arith}
+use lib.ListN.{length, getD, take, drop, length-drop, take-append-drop}
+use lib.Seq.{take-suc, take-all, getD-drop, drop-drop, drop-cons}
+use Rattle.rules.specs.Lists.{All}
+use Rattle.rules.specs.Frames.{lineFeed}
+use Rattle.records.specs.Rows.{row}
+use Rattle.lines.specs.Batching.{IsLine}
+
+pub all-end : {A : Type 0} (P : A → Type 0) (xs : List A) (x : A) → All P xs → P x → All P (xs ++ (x ∷ []))
+all-end P [] x h p = (p, tt)
+all-end P (y ∷ xs) x (h, k) p = (h, all-end P xs x k p)
+
+-- ── passed without a line feed ─────────────────────────────────────────────────────────────────
+
+pub no-character : (input : List ℕ) (from at : ℕ) → at ≡ from → IsLine (take (at - from) (drop from input))
+no-character input from at e = let nothing : at - from ≡ 0 = omega arith in rw nothing tt
+
+pub one-more : (input : List ℕ) (from at : ℕ) → from ≤ at → at < length input → getD input at 0 ≢ lineFeed → IsLine (take (at - from) (drop from input)) → IsLine (take (at + 1 - from) (drop from input))
+one-more input from at h l n before =
+    let next : at + 1 - from ≡ suc (at - from) = omega arith in
+    let here : getD (drop from input) (at - from) 0 ≡ getD input at 0 = getD-drop from input (at - from) 0 ∙ ap (λ k. getD input k 0) (omega arith) in
+    let longer = take-suc (drop from input) (at - from) 0 (omega (arith, length-drop from input)) in
+    subst IsLine (sym (ap (λ n. take n (drop from input)) next ∙ longer))
+    (all-end (λ c. c ≢ lineFeed) (take (at - from) (drop from input)) (getD (drop from input) (at - from) 0) before (subst (λ c. c ≢ lineFeed) (sym here) n))
+
+pub to-the-end : (input : List ℕ) (from at : ℕ) → length input ≤ at → IsLine (take (at - from) (drop from input)) → IsLine (drop from input)
+to-the-end input from at h line = subst IsLine (take-all (at - from) (drop from input) (omega (arith, length-drop from input))) line
+
+-- ── the line and its line feed ────────────────────────────────────────────────────────────────
+
+-- a line of the input
+abbrev pub lineAt : List ℕ → (from end : ℕ) → List ℕ
+lineAt input from end = row (end - from) from input
+
+pub feed-behind : (input : List ℕ) (from end : ℕ) → from ≤ end → end < length input → getD input end 0 ≡ lineFeed → take (suc (end - from)) (drop from input) ≡ lineAt input from end ++ (lineFeed ∷ [])
+feed-behind input from end h l e =
+    let here : getD (drop from input) (end - from) 0 ≡ lineFeed = getD-drop from input (end - from) 0 ∙ ap (λ k. getD input k 0) (omega arith) ∙ e in
+    take-suc (drop from input) (end - from) 0 (omega (arith, length-drop from input)) ∙ ap (λ c. lineAt input from end ++ (c ∷ [])) here
+
+pub line-stands : (input : List ℕ) (from end : ℕ) → from ≤ end → end < length input → getD input end 0 ≡ lineFeed → drop from input ≡ lineAt input from end ++ (lineFeed ∷ drop (suc end) input)
+line-stands input from end h l e =
+    let here : from + (end - from) ≡ end = omega arith in
+    sym (take-append-drop (end - from) (drop from input))
+    ∙ ap (λ later. lineAt input from end ++ later) (drop-drop (end - from) from input ∙ ap (λ n. drop n input) here ∙ drop-cons input end 0 l ∙ ap (λ c. c ∷ drop (suc end) input) e)

@@ -1,0 +1,68 @@
+-- A line to its answer line, and a stretch of lines to their answers.
+use mathlib.Core.Path.{_≡_}
+use mathlib.Core.Logic.{_⊎_, _≢_}
+use mathlib.Core.List.{List, [], _∷_, _++_}
+use mathlib.Core.Option.{Option}
+use Prim.Native.Nat.{ℕ, _+_, _-_, _≤_, _<_}
+use lib.ListN.{length, getD, take, drop}
+use Rattle.rules.specs.Lists.{All}
+use Rattle.rules.specs.AnswerNumbers.{Lent, unsound}
+use Rattle.rules.specs.Frames.{Operation, lineFeed, answerLine, answerOr23, operationOfLine, answersToLines}
+use Rattle.rules.proofs.EveryLine.{lentAfter}
+use Rattle.frames.specs.Answering.{IsLent, roomFor}
+use Rattle.lines.specs.declared.LineAnswer.{LineAnswer}
+use Rattle.lines.specs.declared.LineAnswer.the-variants as answer
+use Rattle.lines.specs.declared.LineEnd.{LineEnd}
+use Rattle.lines.specs.declared.LineEnd.the-variants as end
+use Rattle.lines.specs.declared.Progress.{Progress}
+
+-- the room that the longest answer line to an operation takes: two characters a byte, and the line feed
+abbrev pub lineRoom : Option Operation → ℕ
+lineRoom o = roomFor o + roomFor o + 1
+
+-- the answer line and its line feed stand at the front of the output; the memory is what is lent after the operation
+pub record AnswersLine (o : Option Operation) (l : Lent) (before after output-before output-after : List ℕ) (written : ℕ) : Type 0 where
+  pub size : written ≡ length (answerLine (answerOr23 l o .reply)) + 1
+  pub output : output-after ≡ answerLine (answerOr23 l o .reply) ++ (lineFeed ∷ drop written output-before)
+  pub lent : IsLent after (answerOr23 l o .lent)
+  pub untouched : l ≡ unsound → after ≡ before
+
+-- an answer is given exactly where there is room for the longest one to this operation, and else nothing changes
+abbrev pub LineAnswered : Option Operation → Lent → (before after output-before output-after : List ℕ) → LineAnswer → Type 0
+LineAnswered o l before after output-before output-after (answer.Written size) = (lineRoom o ≤ length output-before) × AnswersLine o l before after output-before output-after size
+LineAnswered o l before after output-before output-after answer.OutputTooShort = (length output-before < lineRoom o) × (after ≡ before) × (output-after ≡ output-before)
+
+-- ── a stretch of lines ─────────────────────────────────────────────────────────────────────────
+
+abbrev pub IsLine : List ℕ → Type 0
+IsLine line = All (λ c. c ≢ lineFeed) line
+
+-- each line with its line feed
+unfoldable pub withFeeds : List (List ℕ) → List ℕ
+withFeeds [] = []
+withFeeds (line ∷ lines) = line ++ (lineFeed ∷ withFeeds lines)
+
+-- the first line feed from a byte on, or that there is none
+abbrev pub FirstFeed : List ℕ → ℕ → LineEnd → Type 0
+FirstFeed input from (end.At at) = (from ≤ at) × (at < length input) × (getD input at 0 ≡ lineFeed) × IsLine (take (at - from) (drop from input))
+FirstFeed input from end.Missing = IsLine (drop from input)
+
+-- why a batch goes no further: no whole line is left, or the next one's answer might not fit
+pub record NextTooLong (rest : List ℕ) (left : ℕ) : Type 0 where
+  pub line : List ℕ
+  pub later : List ℕ
+  pub is-line : IsLine line
+  pub stands : rest ≡ line ++ (lineFeed ∷ later)
+  pub short : left < lineRoom (operationOfLine line)
+
+-- the lines answered are those at the front of the input; their answers stand at the front of the output
+pub record Batches (l : Lent) (input before after output-before output-after : List ℕ) (b : Progress) : Type 0 where
+  pub lines : List (List ℕ)
+  pub are-lines : All IsLine lines
+  pub input-used : take (b .used) input ≡ withFeeds lines
+  pub used : b .used ≡ length (withFeeds lines)
+  pub written : b .written ≡ length (answersToLines l lines)
+  pub output : output-after ≡ answersToLines l lines ++ drop (b .written) output-before
+  pub lent : IsLent after (lentAfter l lines)
+  pub untouched : l ≡ unsound → after ≡ before
+  pub stopped : IsLine (drop (b .used) input) ⊎ NextTooLong (drop (b .used) input) (length output-before - b .written)

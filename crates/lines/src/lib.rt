@@ -1,0 +1,154 @@
+// Lines of digits to answer lines: one line, or a batch that asks once whether the memory is the room of a sound ledger.
+use digits::Decoded;
+ghost use mathlib.Core.Path.{_≡_};
+ghost use mathlib.Core.Option.{none};
+ghost use mathlib.Core.List.{List, _∷_, _++_};
+ghost use Prim.Native.Nat.{ℕ, _+_, _≤_, _<_};
+ghost use lib.ListN.{length, take, drop};
+ghost use Rattle.rules.specs.AnswerNumbers.{Lent};
+ghost use Rattle.rules.specs.Frames.{lineFeed, lineOfBytes, operationOf, operationOfLine};
+ghost use Rattle.frames.specs.Answering.{IsLent, Known};
+ghost use Rattle.lines.specs.Batching.{LineAnswered, FirstFeed, Batches};
+
+// The longest line is of 29,238 characters, and so of 14,619 bytes.
+const LONGEST_LINE: usize = 29238;
+
+// How many characters of an answer line were written, its line feed among them, or that its longest answer has no room.
+pub enum LineAnswer {
+    Written(usize),
+    OutputTooShort,
+}
+
+pub enum LineEnd {
+    At(usize),
+    Missing,
+}
+
+// How much of the input was answered, and how much output was written.
+pub struct Progress {
+    pub used: usize,
+    pub written: usize,
+}
+
+// An answer's bytes become its line, and the line feed ends it.
+fn finish(output: &mut [u8], size: usize) -> usize
+    requires { ⌜ size + size < length (now output) ⌝ }
+    ensures end { λ r. ⌜ r ≡ size + size + 1 ⌝ }
+    ensures line { λ r. ⌜ now (output .exit) ≡ lineOfBytes (take size (now (output .entry))) ++ (lineFeed ∷ drop r (now (output .entry))) ⌝ }
+{
+    digits::spell(output, size);
+    let end = size + size;
+    output[end] = 10;
+    end + 1
+}
+
+// A frame's bytes. Only the room for its longest answer is lent on, so that the answer is no longer.
+fn answer_frame(room: &mut [u8], known: bool, bytes: &[u8], output: &mut [u8]) -> LineAnswer
+    requires { ⌜ Known known (now room) ⌝ }
+    ensures { λ r. ⌜ ((l : Lent) → IsLent (now (room .entry)) l → LineAnswered (operationOf (now (bytes .entry))) l (now (room .entry)) (now (room .exit)) (now (output .entry)) (now (output .exit)) r) ⌝ }
+{
+    let frame = operations::read(bytes);
+    let needed = frames::room_for(frame);
+    if output.len() < needed + needed + 1 {
+        return LineAnswer::OutputTooShort;
+    }
+    let size = frames::answer(room, known, bytes, frame, &mut output[..needed]);
+    LineAnswer::Written(finish(output, size))
+}
+
+// "Empty, odd, .. or any character but 0-9 and a-f: 23"; "a longer one gets one 23"
+fn answer_no_frame(output: &mut [u8]) -> LineAnswer
+    ensures { λ r. ⌜ ((room : List ℕ) (l : Lent) → IsLent room l → LineAnswered none l room room (now (output .entry)) (now (output .exit)) r) ⌝ }
+{
+    if output.len() < 103 {
+        return LineAnswer::OutputTooShort;
+    }
+    let size = answer_bytes::write_number(output, 23);
+    LineAnswer::Written(finish(output, size))
+}
+
+// A line on memory of which it is known whether it is the room of a sound ledger. The frame's bytes stand in the work room.
+pub fn answer_line(
+    room: &mut [u8],
+    known: bool,
+    line: &[u8],
+    work: &mut [u8],
+    output: &mut [u8],
+) -> LineAnswer
+    requires { ⌜ Known known (now room) × (14619 ≤ length (now work)) ⌝ }
+    ensures { λ r. ⌜ ((l : Lent) → IsLent (now (room .entry)) l → LineAnswered (operationOfLine (now (line .entry))) l (now (room .entry)) (now (room .exit)) (now (output .entry)) (now (output .exit)) r) ⌝ }
+{
+    if LONGEST_LINE < line.len() {
+        return answer_no_frame(output);
+    }
+    let Decoded::Bytes(size) = digits::bytes_of_line(line, work) else {
+        return answer_no_frame(output);
+    };
+    answer_frame(room, known, &work[..size], output)
+}
+
+// One line, for any memory, any characters and any output.
+pub fn answer(room: &mut [u8], line: &[u8], output: &mut [u8]) -> LineAnswer
+    ensures { λ r. ⌜ ((l : Lent) → IsLent (now (room .entry)) l → LineAnswered (operationOfLine (now (line .entry))) l (now (room .entry)) (now (room .exit)) (now (output .entry)) (now (output .exit)) r) ⌝ }
+{
+    let known = soundness::is_sound(room);
+    let mut work = [0u8; 14619];
+    answer_line(room, known, line, &mut work, output)
+}
+
+pub fn line_end(input: &[u8], from: usize) -> LineEnd
+    requires { ⌜ from ≤ length (now input) ⌝ }
+    ensures { λ r. ⌜ FirstFeed (now (input .entry)) from r ⌝ }
+{
+    let mut at = from;
+    while at < input.len() {
+        if input[at] == 10 {
+            return LineEnd::At(at);
+        }
+        at += 1;
+    }
+    LineEnd::Missing
+}
+
+// Line after line, each whole, until none is left or the next one's answer might not fit.
+fn answer_lines(
+    room: &mut [u8],
+    known: bool,
+    input: &[u8],
+    work: &mut [u8],
+    output: &mut [u8],
+) -> Progress
+    requires { ⌜ Known known (now room) × (14619 ≤ length (now work)) ⌝ }
+    ensures batches { λ r. ⌜ ((l : Lent) → IsLent (now (room .entry)) l → Batches l (now (input .entry)) (now (room .entry)) (now (room .exit)) (now (output .entry)) (now (output .exit)) r) ⌝ }
+    ensures within { λ r. ⌜ (r .used ≤ length (now (input .entry))) × (r .written ≤ length (now (output .entry))) ⌝ }
+{
+    let mut used = 0;
+    let mut written = 0;
+    while used < input.len() {
+        let LineEnd::At(end) = line_end(input, used) else {
+            return Progress { used, written };
+        };
+        let LineAnswer::Written(size) = answer_line(
+            room,
+            known,
+            &input[used..end],
+            work,
+            &mut output[written..],
+        ) else {
+            return Progress { used, written };
+        };
+        used = end + 1;
+        written += size;
+    }
+    Progress { used, written }
+}
+
+// A batch. Soundness is asked once, and one work room serves all lines.
+pub fn batch(room: &mut [u8], input: &[u8], output: &mut [u8]) -> Progress
+    ensures batches { λ r. ⌜ ((l : Lent) → IsLent (now (room .entry)) l → Batches l (now (input .entry)) (now (room .entry)) (now (room .exit)) (now (output .entry)) (now (output .exit)) r) ⌝ }
+    ensures within { λ r. ⌜ (r .used ≤ length (now (input .entry))) × (r .written ≤ length (now (output .entry))) ⌝ }
+{
+    let known = soundness::is_sound(room);
+    let mut work = [0u8; 14619];
+    answer_lines(room, known, input, &mut work, output)
+}
