@@ -27,6 +27,15 @@ fn stopped() -> Desk
     }
 }
 
+// Whether the answers were written: a failed write ends the program, and says so.
+fn written(answers: &[u8]) -> bool {
+    if io::write_all(1, answers) {
+        return true;
+    }
+    io::write_all(2, b"house: the answers cannot be written\n");
+    false
+}
+
 // Every whole line at the front of the input is answered, and the answers are written as they come.
 fn answer_lines(room: &mut [u8], input: &[u8], output: &mut [u8]) -> Answered
     ensures { λ r. ⌜ UsedWithin (length (now (input .entry))) r ⌝ }
@@ -38,9 +47,8 @@ fn answer_lines(room: &mut [u8], input: &[u8], output: &mut [u8]) -> Answered
         if further == 0 {
             return Answered::Used(used);
         }
-        let written = progress.written;
-        if !io::write_all(1, &output[..written]) {
-            io::write_all(2, b"house: the answers cannot be written\n");
+        let end = progress.written;
+        if !written(&output[..end]) {
             return Answered::WriteFailed;
         }
         used += further;
@@ -79,7 +87,7 @@ fn settle(room: &mut [u8], input: &mut [u8], from: usize, end: usize, output: &m
             going: true,
         };
     }
-    let going = io::write_all(1, b"17\n");
+    let going = written(b"17\n");
     Desk {
         held: 0,
         passing: true,

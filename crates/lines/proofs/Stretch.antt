@@ -15,7 +15,7 @@ use Rattle.rules.proofs.EveryLine.{lentAfter, answers-append}
 use Rattle.records.specs.Rows.{row, put}
 use Rattle.row_writer.proofs.Appending.{two-halves}
 use Rattle.frames.specs.Answering.{IsLent}
-use Rattle.lines.specs.Batching.{IsLine, FirstFeed, withFeeds, AnswersLine, LineAnswered, NextTooLong, Batches}
+use Rattle.lines.specs.Batching.{lineRoom, IsLine, FirstFeed, withFeeds, AnswersLine, LineAnswered, HadRoom, NextTooLong, Batches}
 use Rattle.lines.proofs.LineFound.{all-end, lineAt, feed-behind, line-stands}
 use Rattle.lines.proofs.StaysKnown.{unsound-after, Promise}
 use Rattle.lines.specs.declared.LineAnswer.the-variants as answered
@@ -32,10 +32,11 @@ pub record Underway (l : Lent) (input before after output-before output-after : 
   pub output : output-after ≡ answersToLines l lines ++ drop written output-before
   pub lent : IsLent after (lentAfter l lines)
   pub untouched : l ≡ unsound → after ≡ before
+  pub had-room : HadRoom l (length output-before) lines
 
 pub begun : (l : Lent) (input before output : List ℕ) → IsLent before l → Underway l input before before output output 0 0
 unfolding withFeeds answersToLines lentAfter
-begun l input before output is = record { lines = []; are-lines = tt; input-used = refl; are-used = refl; are-written = refl; output = refl; lent = is; untouched = λ _. refl }
+begun l input before output is = record { lines = []; are-lines = tt; input-used = refl; are-used = refl; are-written = refl; output = refl; lent = is; untouched = λ _. refl; had-room = tt }
 
 feeds-end : (lines : List (List ℕ)) (line : List ℕ) → withFeeds (lines ++ (line ∷ [])) ≡ withFeeds lines ++ (line ++ (lineFeed ∷ []))
 unfolding withFeeds
@@ -60,6 +61,14 @@ feeds-length lines line = ap length (feeds-end lines line) ∙ end-length (withF
 answers-length : (l : Lent) (lines : List (List ℕ)) (line : List ℕ)
     → length (answersToLines l (lines ++ (line ∷ []))) ≡ length (answersToLines l lines) + (length (answerLine (answerToLine (lentAfter l lines) line .reply)) + 1)
 answers-length l lines line = ap length (answers-end l lines line) ∙ end-length (answersToLines l lines) (answerLine (answerToLine (lentAfter l lines) line .reply))
+
+room-end : (l : Lent) (left : ℕ) (lines : List (List ℕ)) (line : List ℕ) → HadRoom l left lines → lineRoom (operationOfLine line) ≤ left - length (answersToLines l lines) → HadRoom l left (lines ++ (line ∷ []))
+unfolding answersToLines
+room-end l left [] line h enough = (omega arith, tt)
+room-end l left (other ∷ lines) line (h, k) enough =
+    let text = answerLine (answerToLine l other .reply) in
+    let later = answersToLines (answerToLine l other .lent) lines in
+    (h, room-end (answerToLine l other .lent) (left - (length text + 1)) lines line k (omega (arith, length-append text (lineFeed ∷ later))))
 
 -- the part of the output that is lent for a line's answer
 abbrev pub partFrom : ℕ → List ℕ → List ℕ
@@ -100,6 +109,7 @@ turn {l} {input} {before} {room} {output₀} {output} {used} {written} room-afte
           ∙ sym (ap (λ front. front ++ rest) (answers-end l (u .lines) line) ∙ append-assoc answers (text ++ (lineFeed ∷ [])) rest ∙ ap (λ more. answers ++ more) (append-assoc text (lineFeed ∷ []) rest));
       lent = subst (λ k. IsLent room-after k) (sym (lent-end l (u .lines) line)) (a .lent);
       untouched = λ e. a .untouched (unsound-after l (u .lines) e) ∙ u .untouched e;
+      had-room = room-end l (length output₀) (u .lines) line (u .had-room) (omega (arith, promise lent (u .lent) .0, ap length (part-left u), length-drop written output₀, u .are-written));
     }
 
 -- the lent part keeps its length, so that what was written stands within the output
@@ -121,6 +131,7 @@ stop u why = record {
   output = u .output;
   lent = u .lent;
   untouched = u .untouched;
+  had-room = u .had-room;
   stopped = why;
 }
 

@@ -7,7 +7,7 @@ use Prim.Native.Nat.{ℕ, _+_, _-_, _≤_, _<_}
 use lib.ListN.{length, getD, take, drop}
 use Rattle.rules.specs.Lists.{All}
 use Rattle.rules.specs.AnswerNumbers.{Lent, unsound}
-use Rattle.rules.specs.Frames.{Operation, lineFeed, answerLine, answerOr23, operationOfLine, answersToLines}
+use Rattle.rules.specs.Frames.{Operation, lineFeed, answerLine, answerOr23, operationOfLine, answerToLine, answersToLines}
 use Rattle.rules.proofs.EveryLine.{lentAfter}
 use Rattle.frames.specs.Answering.{IsLent, roomFor}
 use Rattle.lines.specs.declared.LineAnswer.{LineAnswer}
@@ -47,6 +47,11 @@ abbrev pub FirstFeed : List ℕ → ℕ → LineEnd → Type 0
 FirstFeed input from (end.At at) = (from ≤ at) × (at < length input) × (getD input at 0 ≡ lineFeed) × IsLine (take (at - from) (drop from input))
 FirstFeed input from end.Missing = IsLine (drop from input)
 
+-- each line answered had room for the longest answer to its operation
+abbrev pub HadRoom : Lent → (left : ℕ) → List (List ℕ) → Type 0
+HadRoom l left [] = Unit {0}
+HadRoom l left (line ∷ lines) = (lineRoom (operationOfLine line) ≤ left) × HadRoom (answerToLine l line .lent) (left - (length (answerLine (answerToLine l line .reply)) + 1)) lines
+
 -- why a batch goes no further: no whole line is left, or the next one's answer might not fit
 pub record NextTooLong (rest : List ℕ) (left : ℕ) : Type 0 where
   pub line : List ℕ
@@ -65,4 +70,5 @@ pub record Batches (l : Lent) (input before after output-before output-after : L
   pub output : output-after ≡ answersToLines l lines ++ drop (b .written) output-before
   pub lent : IsLent after (lentAfter l lines)
   pub untouched : l ≡ unsound → after ≡ before
+  pub had-room : HadRoom l (length output-before) lines
   pub stopped : IsLine (drop (b .used) input) ⊎ NextTooLong (drop (b .used) input) (length output-before - b .written)

@@ -9,12 +9,12 @@ use Rattle.house.proofs.desk.answer_lines.Statement.{statement}
 use Rattle.house.proofs.desk.answer_lines.Tie as tie
 
 abbrev Inv-loop : tie.InvT-loop
-Inv-loop room₀ input output₀ used₀ t room output used = (used ≤ length input) × (length room ≡ length room₀) × (length output ≡ length output₀)
+Inv-loop room₀ input output₀ used₀ room output used = (used ≤ length input) × (length room ≡ length room₀) × (length output ≡ length output₀)
 
 abbrev μ-loop : tie.MeasureT-loop
-μ-loop room₀ input output₀ used₀ t room output used = length input - used
+μ-loop room₀ input output₀ used₀ room output used = length input - used
 
-within : tie.Need-slice-aggregate-write-all Inv-loop μ-loop
+within : tie.Need-slice-aggregate-written Inv-loop μ-loop
 within c = let b = c .before .before .before .before .before .before .batch in sym (length-take-le _ _ (omega (arith, b .ensures .1, b .kept)))
 
 pub answer-lines-spec : {M : Type 1} → statement M
@@ -33,8 +33,6 @@ answer-lines-spec =
     (λ c. search needs)
     (λ c. search needs)
     within
-    (λ c κs. search needs)
-    (λ c. search needs)
     (λ c κs. search needs)
     (λ c. search needs)
     (λ c. search needs)
