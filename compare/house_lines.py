@@ -1,15 +1,17 @@
-"""Makes crates/house/stdin and crates/house/stdout: python3 compare/house_lines.py, after compare/run has built the oracle.
+"""Makes crates/house/stdin and crates/house/stdout, the fixed answers: compare/run fixed. With --check it only says whether they are still what it would make.
 
-The first part stays in document 01's domain, and its answers are the unchanged Rust engine's (the oracle's). The second part begins with a restore of no rows
-and holds what the Rust cannot be asked: full names, full reservations, names of any bytes, the exact sum of a row. Its answers are those of model.py, which
-agrees with the oracle on every line of the first part."""
+The first part stays in document 01's domain, and its answers are the unchanged Rust engine's (the oracle's). Some of its lines are written out below, some come
+from the profiles of the random comparison (drivers/src/profiles.rs). The second part begins with a restore of no rows and holds what the Rust cannot be asked:
+full names, full reservations, names of any bytes; and the lines of the profiles on which the two differ by the exact sum of a row. Its answers are those of
+model.py, which agrees with the oracle on every line of the first part."""
 
 import pathlib
 import random
 import struct
 import subprocess
+import sys
 
-from model import M, TAG, Ledger, amount, named, snapshot_bytes, word
+from model import M, TAG, Ledger, Reader, amount, named, snapshot_bytes, word
 
 HERE = pathlib.Path(__file__).resolve().parent
 HOUSE = HERE.parent / "crates" / "house"
@@ -171,20 +173,47 @@ def outside():
     return [f.hex() for f in frames]
 
 
-def main():
-    first, second = inside(), outside()
-    text = "\n".join(first) + "\n"
+def by_chance():
+    """Lines of each profile of the random comparison."""
+    beside = [HERE / "target" / "release" / "beside", "--lines", "5200", "1500"]
+    return subprocess.run(beside, capture_output=True, check=True).stdout.decode().splitlines()
+
+
+def is_exact_sum(line):
+    """Whether remaining and reserved of some row leave 64 bits by themselves, in a line that changes nothing (docs/DIFFERENCES.md)."""
+    data = bytes.fromhex(line)
+    if data[0] not in (12, 14):
+        return False
+    rows = Reader(data[9 if data[0] == 12 else 1 :]).snapshot()[2]
+    return any(not -TAG <= remaining + reserved <= M for _, _, remaining, reserved, _ in rows)
+
+
+def answered():
+    """The lines of both parts, how many are of the first, and their answers."""
+    first = [*inside(), RESET.hex(), *by_chance()]
     oracle = HERE / "target" / "release" / "oracle"
-    rust = subprocess.run([oracle], input=text.encode(), capture_output=True, check=True).stdout.decode().splitlines()
+    rust = subprocess.run([oracle], input=("\n".join(first) + "\n").encode(), capture_output=True, check=True).stdout.decode().splitlines()
     model = Ledger()
-    ours = [model.line(line.encode()) for line in first]
-    differing = [i for i in range(len(first)) if rust[i] != ours[i]]
-    assert not differing, [(i, first[i][:80], rust[i][:80], ours[i][:80]) for i in differing[:5]]
-    answers = rust + [model.line(line.encode()) for line in second]
-    (HOUSE / "stdin").write_text(text + "\n".join(second))
-    (HOUSE / "stdout").write_text("\n".join(answers) + "\n")
+    pairs = [(line, theirs, model.line(line.encode())) for line, theirs in zip(first, rust, strict=True)]
+    differing = [line for line, theirs, ours in pairs if theirs != ours]
+    assert all(map(is_exact_sum, differing)), [line[:80] for line in differing if not is_exact_sum(line)][:5]
+    same = [(line, theirs) for line, theirs, ours in pairs if theirs == ours]
+    second = outside() + differing
+    return [line for line, _ in same] + second, len(same), [theirs for _, theirs in same] + [model.line(line.encode()) for line in second]
+
+
+def main():
+    lines, of_the_rust, answers = answered()
+    made = {"stdin": "\n".join(lines), "stdout": "\n".join(answers) + "\n"}
+    if sys.argv[1:] == ["--check"]:
+        differing = [name for name, text in made.items() if (HOUSE / name).read_bytes() != text.encode()]
+        if differing:
+            sys.exit(f"house_lines.py: crates/house/{' and '.join(differing)} would be made otherwise now")
+    else:
+        for name, text in made.items():
+            (HOUSE / name).write_bytes(text.encode())
     numbers = sorted({int(a[:2], 16) for a in answers})
-    print(len(first), "lines answered by the Rust,", len(second), "by the model; answer numbers", numbers)
+    print(f"fixed answers: {of_the_rust} of the Rust, {len(lines) - of_the_rust} of the model; answer numbers {numbers}")
 
 
 if __name__ == "__main__":
