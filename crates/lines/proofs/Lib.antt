@@ -1,5 +1,6 @@
 pub mod AnswerLines
 pub mod Decoded
 pub mod LineFound
+pub mod SameAnswers
 pub mod StaysKnown
 pub mod Stretch

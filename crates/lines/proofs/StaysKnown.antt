@@ -4,6 +4,7 @@ use mathlib.Core.Bool.{Bool, true, false}
 use mathlib.Core.List.{List, [], _∷_}
 use mathlib.Core.Option.{Option, none, some}
 use Prim.Native.Nat.{ℕ}
+use native.Mathlib.Omega.{arith}
 use Rattle.rules.specs.RoomAndSoundLedger.{Ledger}
 use Rattle.rules.specs.AnswerNumbers.{Outcome, Lent, sound, unsound, onLent}
 use Rattle.rules.specs.AccountRules.{operate}
@@ -41,6 +42,17 @@ pub unsound-after : (l : Lent) (lines : List (List ℕ)) → l ≡ unsound → l
 unfolding lentAfter answerToLine
 unsound-after l [] e = e
 unsound-after l (line ∷ lines) e = unsound-after (answerToLine l line .lent) lines (ap (λ k. answerOr23 k (operationOfLine line) .lent) e ∙ stays-unsound (operationOfLine line))
+
+pub unsound-before-answer : (l : Lent) (o : Option Operation) → answerOr23 l o .lent ≡ unsound → l ≡ unsound
+unfolding onLent
+unsound-before-answer unsound o = λ e. refl
+unsound-before-answer (sound L) o = lent-by (λ l. l ≡ unsound → sound L ≡ unsound) (sound L) o (λ e. e) (λ f e. absurd (let z : _≡_ {A = ℕ} 0 1 = cc in omega arith))
+
+-- what is no sound ledger after some lines was none before them
+pub unsound-before-lines : (l : Lent) (lines : List (List ℕ)) → lentAfter l lines ≡ unsound → l ≡ unsound
+unfolding lentAfter answerToLine
+unsound-before-lines l [] e = e
+unsound-before-lines l (line ∷ lines) e = unsound-before-answer l (operationOfLine line) (unsound-before-lines (answerToLine l line .lent) lines e)
 
 -- what a line's answering promises for whatever is lent
 abbrev pub Promise : Option Operation → (before after output-before output-after : List ℕ) → ℕ → Type 0
