@@ -1,0 +1,2 @@
+pub mod RoomSize
+pub mod SameAnswers

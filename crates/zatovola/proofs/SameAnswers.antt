@@ -1,0 +1,113 @@
+-- What the contracts leave open: nothing. For any memory, frame and output, the number returned, every byte of the memory and every byte of the output are
+-- fixed, refusals included.
+use mathlib.Core.Path.{_≡_, refl, sym, ap, _∙_}
+use mathlib.Core.Logic.{_⊎_, inl, inr, ⊎-elim, _≢_}
+use mathlib.Core.List.{List}
+use mathlib.Core.Option.{Option, none, some}
+use Prim.Native.Nat.{ℕ}
+use lib.ListN.{length}
+use Rattle.rules.specs.Lists.{All}
+use Rattle.rules.specs.RoomAndSoundLedger.{Ledger, IsByte, made}
+use Rattle.rules.specs.AnswerNumbers.{Lent, sound, unsound, onLent}
+use Rattle.rules.specs.Frames.{Operation, onAccount, takeSnapshot, certifyLedger, proveConservation, restoreFrom, recoverFrom, judge, migrateTo, certify, answer, answerOr23}
+use Rattle.rules.proofs.Tests.{by-option, equal-or-not}
+use Rattle.rules.proofs.Names.{same-false, same-or-not}
+use Rattle.contents.specs.Contents.{roomSize}
+use Rattle.contents.proofs.Decoding.{canonical}
+use Rattle.soundness.specs.Making.{Untouched}
+use Rattle.soundness.proofs.Deciding.{less-or-not}
+use Rattle.soundness.proofs.SameBytes.{made-is-room}
+use Rattle.frames.specs.Answering.{IsLent, AnswersOperation, roomFor}
+use Rattle.zatovola.specs.Interface.{bytesOfRoom, madeNumber, MakesNumber, FrameAnswered}
+
+-- of `zatovola_room_size`
+pub same-size : (names reservations m n : ℕ) → m ≡ bytesOfRoom (made names reservations) → n ≡ bytesOfRoom (made names reservations) → m ≡ n
+same-size names reservations m n one two = one ∙ sym two
+
+-- of `zatovola_make`
+module _ (names reservations : ℕ) (before : List ℕ) (m n : ℕ) (after others : List ℕ) (bytes : All IsByte after) (other-bytes : All IsByte others)
+    (one : MakesNumber names reservations before m after) (two : MakesNumber names reservations before n others) where
+  same-number : one .made ≡ two .made → m ≡ n
+  same-number e = one .number ∙ ap madeNumber e ∙ sym (two .number)
+
+  refused : Untouched before (one .made) after → Untouched before (two .made) others → (m ≡ n) × (after ≡ others)
+  refused a b = (same-number (a .answer ∙ sym (b .answer)), a .same ∙ sym (b .same))
+
+  overwritten : (L : Ledger) → made names reservations ≡ some L → length before ≡ roomSize names reservations → (m ≡ n) × (after ≡ others)
+  overwritten L is size =
+      let a = one .makes .overwrites L is size in
+      let b = two .makes .overwrites L is size in
+      let room = made-is-room names reservations L is before size (one .made) after (one .makes) in
+      let other-room = made-is-room names reservations L is before size (two .made) others (two .makes) in
+      (same-number (a .answer ∙ sym (b .answer)), canonical after others L bytes other-bytes room other-room)
+
+  pub same-made : (m ≡ n) × (after ≡ others)
+  same-made = by-option (λ _. (m ≡ n) × (after ≡ others)) (made names reservations)
+      (λ is. refused (one .makes .out-of-range is) (two .makes .out-of-range is))
+      (λ L is.
+      ⊎-elim
+      (overwritten L is)
+      (λ other. refused (one .makes .other-size other) (two .makes .other-size other))
+      (equal-or-not (length before) (roomSize names reservations)))
+
+-- ── an answer ──────────────────────────────────────────────────────────────────────────────────
+
+-- what can be told, and holds of memory that is a sound ledger's room and of memory that is not, holds of any
+by-lent : (memory : List ℕ) {P : Type 0} → P ⊎ (P → ⊥) → ((l : Lent) → IsLent memory l → P) → P
+by-lent memory told holds = ⊎-elim (λ p. p) (λ n. absurd (n (holds unsound (λ L room. n (holds (sound L) room))))) told
+
+same-bytes-or-not : (xs ys : List ℕ) → (xs ≡ ys) ⊎ (xs ≢ ys)
+same-bytes-or-not xs ys = ⊎-elim inl (λ e. inr (same-false xs ys e)) (same-or-not xs ys)
+
+-- a ledger that is lent sound is a ledger after the answer
+by-ledger : (P : Lent → Type 0) (L : Ledger) (o : Option Operation) → ((K : Ledger) → P (sound K)) → P (answerOr23 (sound L) o .lent)
+unfolding answer onLent
+by-ledger P L none holds = holds L
+by-ledger P L (some (onAccount x)) holds = holds _
+by-ledger P L (some takeSnapshot) holds = holds _
+by-ledger P L (some certifyLedger) holds = holds _
+by-ledger P L (some proveConservation) holds = holds _
+by-ledger P L (some (restoreFrom s)) holds = holds _
+by-ledger P L (some (recoverFrom s)) holds = holds _
+by-ledger P L (some (judge s)) holds = holds L
+by-ledger P L (some (migrateTo fence s)) holds = holds L
+by-ledger P L (some (certify since s)) holds = holds L
+
+-- what `zatovola_answer` promises, for whatever is lent
+abbrev pub Promise : Option Operation → (before after output-before output-after : List ℕ) → ℕ → Type 0
+Promise o before after output-before output-after written = (l : Lent) → IsLent before l → FrameAnswered o l before after output-before output-after written
+
+module _ (o : Option Operation) (before after others output output-after output-others : List ℕ) (m n : ℕ)
+    (bytes : All IsByte after) (other-bytes : All IsByte others) where
+  same-memory : (l : Lent) → AnswersOperation o l before after output output-after m → AnswersOperation o l before others output output-others n
+      → after ≡ others
+  same-memory (sound L) one two =
+      by-ledger
+      (λ l. IsLent after l → IsLent others l → after ≡ others)
+      L
+      o
+      (λ K room other-room. canonical after others K bytes other-bytes room other-room)
+      (one .lent)
+      (two .lent)
+  same-memory unsound one two = one .untouched refl ∙ sym (two .untouched refl)
+
+  module _ (one : Promise o before after output output-after m) (two : Promise o before others output output-others n) where
+    agree : (l : Lent) → IsLent before l → (m ≡ n) × (after ≡ others) × (output-after ≡ output-others)
+    agree l is-lent =
+        let a = one l is-lent in
+        let b = two l is-lent in
+        ⊎-elim
+        (λ short. let (i, j, k) = a .too-short short in let (p, q, r) = b .too-short short in (i ∙ sym p, j ∙ sym q, k ∙ sym r))
+        (λ room.
+        let x = a .answered room in
+        let y = b .answered room in
+        (x .writes .size ∙ sym (y .writes .size), same-memory l x y, x .writes .output ∙ sym (y .writes .output)))
+        (less-or-not (length output) (roomFor o))
+
+    -- of `zatovola_answer`
+    pub same-answer : (m ≡ n) × (after ≡ others) × (output-after ≡ output-others)
+    same-answer = (
+      by-lent before (equal-or-not m n) (λ l is-lent. agree l is-lent .0),
+      by-lent before (same-bytes-or-not after others) (λ l is-lent. agree l is-lent .1),
+      by-lent before (same-bytes-or-not output-after output-others) (λ l is-lent. agree l is-lent .2),
+    )

@@ -1,0 +1,38 @@
+-- What the functions for C and Rust promise, in numbers: an answer number for an answer's enum, a count for an answer's size.
+use mathlib.Core.Path.{_≡_}
+use mathlib.Core.List.{List}
+use mathlib.Core.Option.{Option, none, some}
+use Prim.Native.Nat.{ℕ, _≤_, _<_}
+use lib.ListN.{length}
+use Rattle.rules.specs.RoomAndSoundLedger.{Ledger}
+use Rattle.rules.specs.AnswerNumbers.{Lent}
+use Rattle.rules.specs.Frames.{Operation}
+use Rattle.contents.specs.Contents.{roomSize}
+use Rattle.soundness.specs.Making.{Makes}
+use Rattle.soundness.specs.declared.Made.{Made}
+use Rattle.soundness.specs.declared.Made.the-variants.{Done, UnsoundLedger}
+use Rattle.frames.specs.Answering.{AnswersOperation, roomFor}
+use Rattle.lines.specs.declared.Progress.{Progress}
+
+-- the bytes that the room of a ledger takes; none, where T or R is out of range
+abbrev pub bytesOfRoom : Option Ledger → ℕ
+bytesOfRoom none = 0
+bytesOfRoom (some L) = roomSize (L .T) (L .R)
+
+-- "A fresh ledger ..; making one overwrites the room, or gives 24"
+abbrev pub madeNumber : Made → ℕ
+madeNumber Done = 0
+madeNumber UnsoundLedger = 24
+
+pub record MakesNumber (names reservations : ℕ) (before : List ℕ) (r : ℕ) (after : List ℕ) : Type 0 where
+  pub made : Made
+  pub number : r ≡ madeNumber made
+  pub makes : Makes names reservations before made after
+
+-- the answer is given exactly where there is room for the longest one to this operation, and else nothing changes
+pub record FrameAnswered (o : Option Operation) (l : Lent) (before after output-before output-after : List ℕ) (written : ℕ) : Type 0 where
+  pub answered : roomFor o ≤ length output-before → AnswersOperation o l before after output-before output-after written
+  pub too-short : length output-before < roomFor o → (written ≡ 0) × (after ≡ before) × (output-after ≡ output-before)
+
+abbrev pub progress : (used written : ℕ) → Progress
+progress used written = record { used = used; written = written }
