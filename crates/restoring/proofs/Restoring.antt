@@ -1,4 +1,4 @@
--- The step that both restores share, over what a form says of the version: a refusal leaves the room as it was, and else it holds the ledger restored.
+-- A restore by what is said of the version: a refusal leaves the room as it was, and else it holds the ledger restored. And the two forms as such.
 use mathlib.Core.Path.{_≡_, refl, sym, ap, subst, _∙_}
 use mathlib.Core.Logic.{_≢_}
 use mathlib.Core.List.{List, []}
@@ -10,7 +10,7 @@ use lib.ListN.{length, getD}
 use mir.Syntax.{w8}
 use mir.Val.{Fits}
 use Rattle.rules.specs.RoomAndSoundLedger.{Name, Ledger, Sound}
-use Rattle.rules.specs.AnswerNumbers.{Refusal, NameTooLong, Outcome, sound, done, onLent}
+use Rattle.rules.specs.AnswerNumbers.{Refusal, Reply, NameTooLong, sound, done, onLent}
 use Rattle.rules.specs.SnapshotsMigrationCertificates.{Snapshot, snapshotOfBytes, andThen, validation, restored, orElse, restoreVersion, recoveryVersion, restoreRefusal, restore, recoveryRestore, replyOr}
 use Rattle.rules.specs.Frames.{restoreFrom, recoverFrom, answer}
 use Rattle.rules.specs.Domain.{SnapshotFits}
@@ -31,6 +31,7 @@ use Rattle.records.specs.declared.Sizes.{Sizes}
 use Rattle.contents.specs.Room.{IsRoom, Performs}
 use Rattle.lookup.proofs.SoundRoom.{sizes-are}
 use Rattle.filling.specs.Filling.{Takes, Holds}
+use Rattle.restoring.specs.Forms.{restoreBy, Keeps}
 
 -- ── what was checked decides the answer and the ledger ─────────────────────────────────────────
 
@@ -63,40 +64,19 @@ takes {names} of-version s is-read e =
     let (few, _) = check-passes _ _ _ e in
     record { snapshot = s; is-read = is-read; short = short; valid = valid; few = ltb-false names (length (s .rows)) few }
 
--- ── a restore, by what its form says of the version ────────────────────────────────────────────
+-- ── both forms, by what is said of the version ─────────────────────────────────────────────────
 
-abbrev pub restoreBy : (form : ℕ → Option Refusal) → Ledger → Snapshot → Outcome
-restoreBy form L s = orElse (restoreRefusal (form (s .version)) (L .T) s) L (restored L s)
+-- what was checked is the refusal of the rules
+pub record Told (of-version : Option Refusal) (room bytes : List ℕ) (j : Judged) : Type 0 where
+  pub is : (s : Snapshot) → snapshotOfBytes bytes ≡ some s → (L : Ledger) → IsRoom room L → refusalIn j ≡ restoreRefusal of-version (L .T) s
 
--- what was checked is what the form asks for
-pub record Told (form : ℕ → Option Refusal) (room bytes : List ℕ) (j : Judged) : Type 0 where
-  pub is : (s : Snapshot) → snapshotOfBytes bytes ≡ some s → (L : Ledger) → IsRoom room L → refusalIn j ≡ restoreRefusal (form (s .version)) (L .T) s
+pub checked : {of-version : Option Refusal} {room bytes : List ℕ} {j : Judged} {sizes : Sizes} → sizes ≡ sizesOf room
+    → ((s : Snapshot) → snapshotOfBytes bytes ≡ some s → refusalIn j ≡ restoreRefusal of-version (sizes .names) s) → Told of-version room bytes j
+checked {of-version} {room} are judged =
+    record { is = λ s e L is-room. judged s e ∙ ap (λ sizes. restoreRefusal of-version (sizes .names) s) (are ∙ sizes-are room L is-room) }
 
--- the form's own checks keep a sound ledger sound
-abbrev pub Keeps : (form : ℕ → Option Refusal) → Type 0
-Keeps form = (L : Ledger) → Sound L → (s : Snapshot) → SnapshotFits s → Sound (restoreBy form L s .ledger)
-
-pub restore-keeps : Keeps restoreVersion
-unfolding answer onLent restore
-restore-keeps L known s fits = answer-sound (sound L) known (restoreFrom s) fits
-
-pub recovery-keeps : Keeps recoveryVersion
-unfolding answer onLent recoveryRestore
-recovery-keeps L known s fits = answer-sound (sound L) known (recoverFrom s) fits
-
-pub checked : {form : ℕ → Option Refusal} {room bytes : List ℕ} {j : Judged} {sizes : Sizes} {version : ℕ} → sizes ≡ sizesOf room
-    → ((s : Snapshot) → snapshotOfBytes bytes ≡ some s → version ≡ s .version)
-    → (of-version : Verdict) → refusalOf [] of-version ≡ form version
-    → ((s : Snapshot) → snapshotOfBytes bytes ≡ some s → refusalIn j ≡ restoreRefusal (refusalOf [] of-version) (sizes .names) s) → Told form room bytes j
-checked {form} {room} {sizes} are is-version of-version by-form judged = record {
-  is = λ s e L is-room.
-      let names : sizes .names ≡ L .T = ap (λ s. s .names) (are ∙ sizes-are room L is-room) in
-      let same-version = by-form ∙ ap form (is-version s e) in
-      judged s e ∙ λ i. restoreRefusal (same-version i) (names i) s;
-}
-
-module _ {form : ℕ → Option Refusal} {room bytes : List ℕ} {j : Judged} (told : Told form room bytes j) where
-  pub refused : NotDone (j .verdict) → (s : Snapshot) → snapshotOfBytes bytes ≡ some s → (L : Ledger) → IsRoom room L → Performs (λ K. restoreBy form K s) L (judgedReply j) room
+module _ {of-version : Option Refusal} {room bytes : List ℕ} {j : Judged} (told : Told of-version room bytes j) where
+  pub refused : NotDone (j .verdict) → (s : Snapshot) → snapshotOfBytes bytes ≡ some s → (L : Ledger) → IsRoom room L → Performs (λ K. restoreBy of-version K s) L (judgedReply j) room
   refused other s e L is-room =
       let is = told .is s e L is-room in
       record {
@@ -105,19 +85,47 @@ module _ {form : ℕ → Option Refusal} {room bytes : List ℕ} {j : Judged} (t
       }
 
   module _ (passed : j .verdict ≡ verdict.Done) where
-    none-refused : (s : Snapshot) → snapshotOfBytes bytes ≡ some s → (L : Ledger) → IsRoom room L → restoreRefusal (form (s .version)) (L .T) s ≡ none
+    none-refused : (s : Snapshot) → snapshotOfBytes bytes ≡ some s → (L : Ledger) → IsRoom room L → restoreRefusal of-version (L .T) s ≡ none
     none-refused s e L is-room = sym (told .is s e L is-room) ∙ ap (refusalOf (spelled (j .name))) passed
 
     pub taken : IsSnapshot bytes → (L : Ledger) → IsRoom room L → Takes (L .T) bytes
-    taken known L is-room = takes (form (known .snapshot .version)) (known .snapshot) (known .is-read) (none-refused (known .snapshot) (known .is-read) L is-room)
+    taken known L is-room = takes of-version (known .snapshot) (known .is-read) (none-refused (known .snapshot) (known .is-read) L is-room)
 
-    pub replaced : {after : List ℕ} → ((L : Ledger) → IsRoom room L → (s : Snapshot) → snapshotOfBytes bytes ≡ some s → Holds (restored L s) room after) → ((i : ℕ) → Fits w8 (getD bytes i 0)) → Keeps form
-        → (s : Snapshot) → snapshotOfBytes bytes ≡ some s → (L : Ledger) → IsRoom room L → Performs (λ K. restoreBy form K s) L (judgedReply j) after
+    pub replaced : {after : List ℕ} → ((L : Ledger) → IsRoom room L → (s : Snapshot) → snapshotOfBytes bytes ≡ some s → Holds (restored L s) room after) → ((i : ℕ) → Fits w8 (getD bytes i 0))
+        → Keeps bytes of-version → (s : Snapshot) → snapshotOfBytes bytes ≡ some s → (L : Ledger) → IsRoom room L → Performs (λ K. restoreBy of-version K s) L (judgedReply j) after
     replaced {after} filled are-bytes keeps s e L is-room =
         let is = ledger-after L (restored L s) _ (none-refused s e L is-room) in
         let holds = filled L is-room s e in
-        let sound = keeps L (is-room .sound) s (snapshot-only bytes (all-bytes bytes are-bytes) s e .1) in
+        let sound = keeps .sound s e (snapshot-only bytes (all-bytes bytes are-bytes) s e .1) L (is-room .sound) in
         record {
           answer = ap (λ o. replyOr o (done [])) (told .is s e L is-room) ∙ same-reply L (restored L s) _;
           room = subst (IsRoom after) (sym is) (record { size = holds .size ∙ is-room .size; holds = holds .contents; sound = subst Sound is sound });
         }
+
+-- ── a form of its own ──────────────────────────────────────────────────────────────────────────
+
+-- the form's own checks keep a sound ledger sound
+abbrev pub FormKeeps : (form : ℕ → Option Refusal) → Type 0
+FormKeeps form = (L : Ledger) → Sound L → (s : Snapshot) → SnapshotFits s → Sound (restoreBy (form (s .version)) L s .ledger)
+
+pub restore-keeps : FormKeeps restoreVersion
+unfolding answer onLent restore
+restore-keeps L known s fits = answer-sound (sound L) known (restoreFrom s) fits
+
+pub recovery-keeps : FormKeeps recoveryVersion
+unfolding answer onLent recoveryRestore
+recovery-keeps L known s fits = answer-sound (sound L) known (recoverFrom s) fits
+
+abbrev IsVersion : List ℕ → ℕ → Type 0
+IsVersion bytes version = (s : Snapshot) → snapshotOfBytes bytes ≡ some s → version ≡ s .version
+
+module _ (form : ℕ → Option Refusal) (bytes : List ℕ) {version : ℕ} (is-version : IsVersion bytes version) {of-version : Option Refusal} (by-form : of-version ≡ form version) where
+  of-form : (s : Snapshot) → snapshotOfBytes bytes ≡ some s → of-version ≡ form (s .version)
+  of-form s e = by-form ∙ ap form (is-version s e)
+
+  pub form-keeps : FormKeeps form → Keeps bytes of-version
+  form-keeps keeps = record { sound = λ s e fits L known. subst (λ o. Sound (restoreBy o L s .ledger)) (sym (of-form s e)) (keeps L known s fits) }
+
+  pub by-its-form : {room after : List ℕ} {r : Reply} → ((s : Snapshot) → snapshotOfBytes bytes ≡ some s → (L : Ledger) → IsRoom room L → Performs (λ K. restoreBy of-version K s) L r after)
+      → (s : Snapshot) → snapshotOfBytes bytes ≡ some s → (L : Ledger) → IsRoom room L → Performs (λ K. restoreBy (form (s .version)) K s) L r after
+  by-its-form {after} {r} performs s e L is-room = subst (λ o. Performs (λ K. restoreBy o K s) L r after) (of-form s e) (performs s e L is-room)

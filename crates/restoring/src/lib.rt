@@ -10,6 +10,7 @@ ghost use Rattle.rules.specs.SnapshotsMigrationCertificates.{Snapshot, snapshot
 ghost use Rattle.snapshot_reader.specs.Standing.{IsSnapshot};
 ghost use Rattle.validation.specs.Judgement.{refusalOf, refusalIn, judgedReply};
 ghost use Rattle.contents.specs.Room.{SoundRoom, IsRoom, Performs};
+ghost use Rattle.restoring.specs.Forms.{restoreBy, Keeps};
 
 const M: u64 = 9223372036854775807;
 
@@ -63,17 +64,14 @@ fn refusal(names: u64, bytes: &[u8], of_version: Verdict) -> Judged
     validation::nameless(Verdict::Done)
 }
 
-pub fn restore(room: &mut [u8], bytes: &[u8]) -> Judged
-    requires { ⌜ SoundRoom (now room) × IsSnapshot (now bytes) ⌝ }
-    ensures performs { λ r. ⌜ ((s : Snapshot) → snapshotOfBytes (now (bytes .entry)) ≡ some s → (L : Ledger) → IsRoom (now (room .entry)) L → Performs (λ K. restore K s) L (judgedReply r) (now (room .exit))) ⌝ }
+// Both forms, which differ in what they say of the version alone.
+fn restore_by(room: &mut [u8], bytes: &[u8], of_version: Verdict) -> Judged
+    requires { ⌜ SoundRoom (now room) × IsSnapshot (now bytes) × Keeps (now bytes) (refusalOf [] «of_version») ⌝ }
+    ensures performs { λ r. ⌜ ((s : Snapshot) → snapshotOfBytes (now (bytes .entry)) ≡ some s → (L : Ledger) → IsRoom (now (room .entry)) L → Performs (λ K. restoreBy (refusalOf [] «of_version») K s) L (judgedReply r) (now (room .exit))) ⌝ }
     ensures short { λ r. ⌜ r .name .length ≤ 24 ⌝ }
 {
     let sizes = records::load_sizes(room);
-    let judged = refusal(
-        sizes.names,
-        bytes,
-        restore_version(snapshot_reader::version(bytes)),
-    );
+    let judged = refusal(sizes.names, bytes, of_version);
     let verdict = judged.verdict;
     let Verdict::Done = verdict else {
         return judged;
@@ -82,21 +80,26 @@ pub fn restore(room: &mut [u8], bytes: &[u8]) -> Judged
     judged
 }
 
+pub fn restore(room: &mut [u8], bytes: &[u8]) -> Judged
+    requires { ⌜ SoundRoom (now room) × IsSnapshot (now bytes) ⌝ }
+    ensures performs { λ r. ⌜ ((s : Snapshot) → snapshotOfBytes (now (bytes .entry)) ≡ some s → (L : Ledger) → IsRoom (now (room .entry)) L → Performs (λ K. restore K s) L (judgedReply r) (now (room .exit))) ⌝ }
+    ensures short { λ r. ⌜ r .name .length ≤ 24 ⌝ }
+{
+    restore_by(
+        room,
+        bytes,
+        restore_version(snapshot_reader::version(bytes)),
+    )
+}
+
 pub fn recovery_restore(room: &mut [u8], bytes: &[u8]) -> Judged
     requires { ⌜ SoundRoom (now room) × IsSnapshot (now bytes) ⌝ }
     ensures performs { λ r. ⌜ ((s : Snapshot) → snapshotOfBytes (now (bytes .entry)) ≡ some s → (L : Ledger) → IsRoom (now (room .entry)) L → Performs (λ K. recoveryRestore K s) L (judgedReply r) (now (room .exit))) ⌝ }
     ensures short { λ r. ⌜ r .name .length ≤ 24 ⌝ }
 {
-    let sizes = records::load_sizes(room);
-    let judged = refusal(
-        sizes.names,
+    restore_by(
+        room,
         bytes,
         recovery_version(snapshot_reader::version(bytes)),
-    );
-    let verdict = judged.verdict;
-    let Verdict::Done = verdict else {
-        return judged;
-    };
-    filling::fill(room, bytes);
-    judged
+    )
 }

@@ -15,7 +15,7 @@ ghost use Rattle.validation.specs.Judgement.{judgedReply};
 ghost use Rattle.snapshot_writer.specs.Output.{outputAfter, snapshotReply, SizeWithin};
 ghost use Rattle.migration.specs.Migrated.{migratedReply};
 ghost use Rattle.certificates.specs.Certified.{certifiedReply, provedReply};
-ghost use Rattle.snapshots.specs.Supplied.{AnswersSnapshot, onSupplied};
+ghost use Rattle.snapshots.specs.Supplied.{AnswersSnapshot, FirstCheck, onSupplied};
 
 // One pass over the places to write them, and one to measure them where the output might be too short.
 pub fn snapshot(room: &mut [u8], output: &mut [u8]) -> Snapshotted
@@ -29,17 +29,28 @@ pub fn snapshot(room: &mut [u8], output: &mut [u8]) -> Snapshotted
     snapshot_writer::snapshot(room, output)
 }
 
+// "Order everywhere: 23, 24": one pass over the bytes and, where they are a snapshot, one over the memory.
+fn first_check(room: &[u8], bytes: &[u8]) -> Verdict
+    ensures { λ r. ⌜ FirstCheck (now (bytes .entry)) (now (room .entry)) r ⌝ }
+{
+    if !snapshot_reader::is_snapshot(bytes) {
+        return Verdict::BadFrame;
+    }
+    if !soundness::is_sound(room) {
+        return Verdict::UnsoundLedger;
+    }
+    Verdict::Done
+}
+
 // One pass over the bytes to read them, three to judge them, in one of which each name is compared with those before it, and one to put the rows.
 pub fn restore(room: &mut [u8], bytes: &[u8]) -> Judged
     ensures answers { λ r. ⌜ AnswersSnapshot restore (snapshotOfBytes (now (bytes .entry))) (now (room .entry)) (judgedReply r) (now (room .exit)) ⌝ }
     ensures short { λ r. ⌜ r .name .length ≤ 24 ⌝ }
 {
-    if !snapshot_reader::is_snapshot(bytes) {
-        return validation::nameless(Verdict::BadFrame);
-    }
-    if !soundness::is_sound(room) {
-        return validation::nameless(Verdict::UnsoundLedger);
-    }
+    let first = first_check(room, bytes);
+    let Verdict::Done = first else {
+        return validation::nameless(first);
+    };
     restoring::restore(room, bytes)
 }
 
@@ -48,12 +59,10 @@ pub fn recovery_restore(room: &mut [u8], bytes: &[u8]) -> Judged
     ensures answers { λ r. ⌜ AnswersSnapshot recoveryRestore (snapshotOfBytes (now (bytes .entry))) (now (room .entry)) (judgedReply r) (now (room .exit)) ⌝ }
     ensures short { λ r. ⌜ r .name .length ≤ 24 ⌝ }
 {
-    if !snapshot_reader::is_snapshot(bytes) {
-        return validation::nameless(Verdict::BadFrame);
-    }
-    if !soundness::is_sound(room) {
-        return validation::nameless(Verdict::UnsoundLedger);
-    }
+    let first = first_check(room, bytes);
+    let Verdict::Done = first else {
+        return validation::nameless(first);
+    };
     restoring::recovery_restore(room, bytes)
 }
 

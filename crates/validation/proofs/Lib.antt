@@ -3,3 +3,4 @@ pub mod Balancing
 pub mod Validating
 pub mod Seen
 pub mod Standing
+pub mod Passing

@@ -1,48 +1,21 @@
 -- `restoring::recovery_restore` meets its contract.
 use borrow.Author.Needs.{needs}
 use Rattle.rules.specs.SnapshotsMigrationCertificates.{recoveryVersion, recoveryRestore}
-use Rattle.restoring.proofs.Restoring.{Told, recovery-keeps, checked, refused, taken, replaced}
+use Rattle.restoring.proofs.Restoring.{recovery-keeps, form-keeps, by-its-form}
 use Rattle.restoring.proofs.recovery_restore.Statement.{statement}
 use Rattle.restoring.proofs.recovery_restore.Tie as tie
 
-abbrev entry : tie.After-refusal → tie.After-shared-slice-known
-entry c = c .before .before .before .before .before
-
-told : (c : tie.After-refusal) → let a = entry c .before .before .args in Told recoveryVersion (a .room .now) (a .bytes .now) (c .refusal .result)
-told c =
-    let judged = c .before in
-    let read = judged .before in
-    checked (read .before .load-sizes .ensures) (read .version .ensures) (judged .recovery-version .result) (judged .recovery-version .ensures) (c .refusal .ensures .0)
+restore-by-requires : tie.Need-restore-by-requires
+restore-by-requires c κs =
+    let known = c .before .before .before .before .before .pre in
+    (known .0, known .1, form-keeps recoveryVersion _ (c .before .version .ensures) (c .recovery-version .ensures) recovery-keeps)
 
 returns : tie.Need-returns
 unfolding recoveryRestore
-returns c = (refused (told (c .before)) (c .match .keys2), c .before .refusal .ensures .1)
-
-fill-requires : tie.Need-fill-requires
-fill-requires c κs =
+returns c =
     let judged = c .before .before .before in
-    let known = entry judged .before .before .pre in
-    (known .0, taken (told judged) (c .before .enum-told .given .1) (known .1))
-
-returns-2 : tie.Need-returns-2
-unfolding recoveryRestore
-returns-2 c =
-    let filled = c .before .before in
-    let passed = filled .before .before in
-    let judged = passed .before .before in
-    (replaced (told judged) (passed .enum-told .given .1) (filled .fill .ensures) (entry judged .shared-slice-known .given) recovery-keeps, judged .refusal .ensures .1)
+    let restored = c .before .before .restore-by in
+    (by-its-form recoveryVersion _ (judged .before .version .ensures) (judged .recovery-version .ensures) (restored .ensures .0), restored .ensures .1)
 
 pub recovery-restore-spec : {M : Type 1} → statement M
-recovery-restore-spec =
-    tie.close
-    (tie.spec
-    (λ c κs. search needs)
-    (λ c κs. search needs)
-    (λ c κs. search needs)
-    (λ c κs. search needs)
-    (λ c. search needs)
-    (λ c. search needs)
-    returns
-    fill-requires
-    (λ c. search needs)
-    returns-2)
+recovery-restore-spec = tie.close (tie.spec (λ c κs. search needs) (λ c κs. search needs) restore-by-requires (λ c. search needs) returns)
