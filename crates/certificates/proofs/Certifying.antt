@@ -69,5 +69,5 @@ pub since-small : (rs : List Row) (h : Head) (total : ℕ) → committedRowsTota
 since-small rs h total is-total =
     by-test (λ (r : Rotated). r .since ≤ M) (totalsFit rs)
     (λ fit. let small = leb-true total M (subst (λ z. fits64 z ≡ true) is-total (and-true (fits64 (initialTotal rs)) (fits64 (committedRowsTotal rs)) fit .1)) in
-    by-test (λ (r : Rotated). r .since ≤ M) (ltb (h .baseline) total) (λ _. omega arith) (λ _. omega arith))
+    by-test (λ since. since ≤ M) (ltb (h .baseline) total) (λ _. omega arith) (λ _. omega arith))
     (λ _. omega arith)

@@ -18,9 +18,8 @@ use Rattle.records.specs.declared.Sizes.{Sizes}
 use Rattle.heads.specs.Heads.{stampedHead}
 use Rattle.heads.specs.declared.Stamped.{Stamped}
 use Rattle.heads.specs.declared.Stamped.the-variants as stamped
-use Rattle.contents.specs.Contents.{contentsOf}
-use Rattle.contents.specs.Room.{headIn, contentsIn, IsRoom}
-use Rattle.lookup.proofs.SoundRoom.{sizes-are}
+use Rattle.contents.specs.Room.{headIn, IsRoom}
+use Rattle.lookup.proofs.SoundRoom.{sizes-are, head-is}
 use Rattle.reads.specs.Answers.{countReply}
 use Rattle.certificates.specs.Certified.{summaryOf, summarizedOf}
 use Rattle.certificates.specs.declared.Summary.{Summary}
@@ -50,17 +49,16 @@ module _ (xs : List ℕ) (L : Ledger) (room : IsRoom xs L) where
   live-counted s e = ap (λ t. t .live) (e ∙ sizes-are xs L room)
 
   module _ (h : Head) (loaded : h ≡ headOf xs) where
-    head-is : h ≡ headIn L
-    unfolding contentsOf contentsIn
-    head-is = loaded ∙ ap (λ c. c .head) (room .holds)
+    is-head : h ≡ headIn L
+    is-head = loaded ∙ head-is xs L room
 
     -- what `stamp` asks
     pub next-id-small : h .«next_id» ≤ M
-    next-id-small = omega (arith, ap (λ g. g .«next_id») head-is, room .sound .next-id)
+    next-id-small = omega (arith, ap (λ g. g .«next_id») is-head, room .sound .next-id)
 
     module _ (r : Stamped) (is : r ≡ stampedHead h) where
       stamped-is : r ≡ stampedHead (headIn L)
-      stamped-is = is ∙ ap stampedHead head-is
+      stamped-is = is ∙ ap stampedHead is-head
 
       pub exhausted : r ≡ stamped.AllocatorExhausted → AllocatorExhausted ≡ summarizedOf L
       exhausted e = by-test (λ t. t ≡ stamped.AllocatorExhausted → AllocatorExhausted ≡ summarizedOf L) (nextIdIsM L)

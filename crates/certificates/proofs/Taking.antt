@@ -65,7 +65,7 @@ module _ (L : Ledger) (not-last : nextIdIsM L ≡ false) where
       goes-on _ ∙
       by-bool (λ fit. cond (fit && ltb (L .baseline) total) (outcome (certificate s (pos (total - L .baseline))) (headed (withBaseline total h) L)) (outcome (certificate s (pos 0)) (headed h L))
       ≡ outcome (certificate s (pos (rotationOf fit h total .since))) (headed (rotationOf fit h total .head) L)) (totalsFit (s .rows))
-      (λ _. by-bool (λ larger. let r : Rotated = cond larger (record { since = total - L .baseline; head = withBaseline total h }) (record { since = 0; head = h }) in
+      (λ _. by-bool (λ larger. let r : Rotated = record { since = cond larger (total - L .baseline) 0; head = withBaseline (cond larger total (L .baseline)) h } in
       cond larger (outcome (certificate s (pos (total - L .baseline))) (headed (withBaseline total h) L)) (outcome (certificate s (pos 0)) (headed h L))
       ≡ outcome (certificate s (pos (r .since))) (headed (r .head) L)) (ltb (L .baseline) total) (λ _. refl) (λ _. refl))
       (λ _. refl)

@@ -202,7 +202,7 @@ fn rotation(head: Head, totals: Totals) -> Rotated
     let Sign::Natural(total) = numbers::sign_of(committed) else {
         return Rotated { since: 0, head };
     };
-    heads::rotate(head, total)
+    heads::after_rotation(head, total)
 }
 
 // What the ledger's own snapshot says beside its rows, and the head that it stamps: "next id M gives 9". Two passes over the places.

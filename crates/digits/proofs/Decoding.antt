@@ -57,40 +57,42 @@ module _ (line : List ℕ) (at : ℕ) where
   unfolding bytesOfLine
   none-left l = rw (drop-of-length-le line {i = at} l)
 
--- under way: the room's first i bytes are those of the characters before `at`, and behind them it is as it was
-pub record Underway (line before after : List ℕ) (at i : ℕ) : Type 0 where
-  pub rest : bytesOfLine line ≡ joined (take i after) (bytesOfLine (drop at line))
+-- under way: the room's first i bytes are those of the line's first i pairs, and behind them it is as it was
+pub record Underway (line before after : List ℕ) (i : ℕ) : Type 0 where
+  pub rest : bytesOfLine line ≡ joined (take i after) (bytesOfLine (drop (i + i) line))
   pub room : drop i after ≡ drop i before
 
-pub begun : (line room : List ℕ) → Underway line room room 0 0
+pub begun : (line room : List ℕ) → Underway line room room 0
 begun line room = record { rest = joined-none (bytesOfLine line); room = refl }
 
-module _ {line before after : List ℕ} {at i : ℕ} (w : Underway line before after at i) where
-  refused : bytesOfLine (drop at line) ≡ none → length after ≡ length before → Decodes (bytesOfLine line) before after BadFrame
+module _ {line before after : List ℕ} {i : ℕ} (w : Underway line before after i) where
+  refused : bytesOfLine (drop (i + i) line) ≡ none → length after ≡ length before → Decodes (bytesOfLine line) before after BadFrame
   refused e s = subst (λ bs. Decodes bs before after BadFrame) (sym (w .rest ∙ ap (joined (take i after)) e)) record { answer = refl; size = s }
 
-  module _ {high low : ℕ} (n : Next line at high low) where
-    pub turn : (byte : ℕ) → byte ≡ high * 16 + low → high < 16 → low < 16 → i < length after → Underway line before (set after i byte) (at + 2) (i + 1)
+  module _ {high low : ℕ} (n : Next line (i + i) high low) where
+    pub turn : (byte : ℕ) → byte ≡ high * 16 + low → high < 16 → low < 16 → i < length after → Underway line before (set after i byte) (i + 1)
     turn byte e h l k =
-        let further = bytesOfLine (drop (at + 2) line) in
+        let two : i + 1 + (i + 1) ≡ i + i + 2 = omega arith in
+        let further = bytesOfLine (drop (i + i + 2) line) in
         record {
           rest = w .rest
               ∙ ap (joined (take i after)) (n ∙ right-pair high low further h l)
               ∙ joined-twice (take i after) ((high * 16 + low) ∷ []) further
-              ∙ rw (add-one, take-suc-set after i byte k, e);
+              ∙ rw (two, add-one, take-suc-set after i byte k, e);
           room = drop-set-lt (i + 1) after i byte (omega arith) ∙ sym (drop-drop 1 i after) ∙ ap (drop 1) (w .room) ∙ drop-drop 1 i before;
         }
 
     pub wrong : (15 < high) ⊎ (15 < low) → length after ≡ length before → Decodes (bytesOfLine line) before after BadFrame
-    wrong k = refused (n ∙ wrong-pair high low (bytesOfLine (drop (at + 2) line)) k)
+    wrong k = refused (n ∙ wrong-pair high low (bytesOfLine (drop (i + i + 2) line)) k)
 
-  pub odd : at < length line → length line ≤ at + 1 → length after ≡ length before → Decodes (bytesOfLine line) before after BadFrame
-  odd h l = refused (one-left line at h l)
+  pub odd : i + i < length line → length line ≤ i + i + 1 → length after ≡ length before → Decodes (bytesOfLine line) before after BadFrame
+  odd h l = refused (one-left line (i + i) h l)
 
-  pub finished : length line ≤ at → i ≤ length after → Decodes (bytesOfLine line) before after (Bytes i)
+  pub finished : length line ≤ i + i → i ≤ length after → Decodes (bytesOfLine line) before after (Bytes i)
   finished h k =
       let size : length (take i after) ≡ i = length-take-le i after k in
-      let bytes : bytesOfLine line ≡ some (take i after) = w .rest ∙ ap (joined (take i after)) (none-left line at h) ∙ ap some (append-nil (take i after)) in
+      let bytes : bytesOfLine line ≡ some (take i after) =
+      w .rest ∙ ap (joined (take i after)) (none-left line (i + i) h) ∙ ap some (append-nil (take i after)) in
       subst (λ bs. Decodes bs before after (Bytes i)) (sym bytes) record {
         answer = ap Bytes (sym size);
         room = sym (take-append-drop i after) ∙ ap (λ bs. take i after ++ bs) (w .room ∙ ap (λ n. drop n before) (sym size));

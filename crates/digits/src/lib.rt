@@ -4,6 +4,7 @@ ghost use mathlib.Core.List.{_++_};
 ghost use Prim.Native.Nat.{_*_, _+_, _≤_, _<_};
 ghost use lib.ListN.{length, take, drop};
 ghost use Rattle.rules.specs.Frames.{digitOf, bytesOfLine, characterOf, lineOfBytes};
+ghost use Rattle.digits.specs.Tables.{Gives};
 ghost use Rattle.digits.specs.Decoding.{Decodes};
 
 // "a table of 256 entries gives each byte's digit, or 16 for none"
@@ -266,16 +267,38 @@ const DIGIT: [u8; 256] = [
     16,
 ];
 
+// '0' to '9', 'a' to 'f'
+const CHARACTER: [u8; 16] = [
+    48,
+    49,
+    50,
+    51,
+    52,
+    53,
+    54,
+    55,
+    56,
+    57,
+    97,
+    98,
+    99,
+    100,
+    101,
+    102,
+];
+
 // What a line comes to: so many bytes, or no frame.
 pub enum Decoded {
     Bytes(usize),
     BadFrame,
 }
 
-pub fn digit(character: u8) -> u8
+// The tables come lent: a constant is made anew at each place that reads it, so a line makes its table once, before the loop.
+fn digit(table: &[u8; 256], character: u8) -> u8
+    requires { ⌜ Gives digitOf 256 (now table) ⌝ }
     ensures { λ r. ⌜ r ≡ digitOf character ⌝ }
 {
-    DIGIT[character as usize]
+    table[character as usize]
 }
 
 // "digits joined by shifts"
@@ -291,32 +314,30 @@ pub fn bytes_of_line(line: &[u8], bytes: &mut [u8]) -> Decoded
     requires { ⌜ length (now line) ≤ 2 * length (now bytes) ⌝ }
     ensures { λ r. ⌜ Decodes (bytesOfLine (now (line .entry))) (now (bytes .entry)) (now (bytes .exit)) r ⌝ }
 {
-    let mut at = 0;
+    let table = DIGIT;
+    let pairs = line.len() / 2;
     let mut i = 0;
-    while at + 1 < line.len() {
-        let high = digit(line[at]);
-        let low = digit(line[at + 1]);
+    while i < pairs {
+        let at = i + i;
+        let high = digit(&table, line[at]);
+        let low = digit(&table, line[at + 1]);
         if 15 < high || 15 < low {
             return Decoded::BadFrame;
         }
         bytes[i] = join(high, low);
         i += 1;
-        at += 2;
     }
-    if at < line.len() {
+    if i + i < line.len() {
         return Decoded::BadFrame;
     }
     Decoded::Bytes(i)
 }
 
-fn character(digit: u8) -> u8
-    requires { ⌜ digit < 16 ⌝ }
+fn character(table: &[u8; 16], digit: u8) -> u8
+    requires { ⌜ Gives characterOf 16 (now table) × (digit < 16) ⌝ }
     ensures { λ r. ⌜ r ≡ characterOf digit ⌝ }
 {
-    if digit < 10 {
-        return 48 + digit;
-    }
-    87 + digit
+    table[digit as usize]
 }
 
 // The bytes at the front become their line where they stand: from the last one back, so that none is overwritten before it is read.
@@ -324,12 +345,13 @@ pub fn spell(output: &mut [u8], size: usize)
     requires { ⌜ size + size ≤ length (now output) ⌝ }
     ensures { λ _. ⌜ now (output .exit) ≡ lineOfBytes (take size (now (output .entry))) ++ drop (size + size) (now (output .entry)) ⌝ }
 {
+    let table = CHARACTER;
     let mut i = size;
     while 0 < i {
         i -= 1;
         let byte = output[i];
         let at = i + i;
-        output[at + 1] = character(byte % 16);
-        output[at] = character(byte / 16);
+        output[at + 1] = character(&table, byte % 16);
+        output[at] = character(&table, byte / 16);
     }
 }

@@ -1,9 +1,22 @@
-// The ledger's head by value: what a snapshot stamps on it, and how a certificate rotates its baseline.
+// The ledger's head (next id, last version, baseline): an id drawn and the baseline rotated in place, and what a snapshot stamps on it.
+use numbers::Identifier;
 use records::Head;
 ghost use mathlib.Core.Path.{_≡_};
 ghost use Prim.Native.Nat.{_≤_};
 ghost use Rattle.rules.specs.RoomAndSoundLedger.{M};
-ghost use Rattle.heads.specs.Heads.{stampedHead, rotatedHead};
+ghost use Rattle.heads.specs.Heads.{identifierAt, nextAfter, drawnHead, stampedHead, sinceBaseline, larger, rotatedHead};
+
+const M: u64 = 9223372036854775807;
+
+pub enum Drawing {
+    Identifier(Identifier),
+    AllocatorExhausted,
+}
+
+pub struct Drawn {
+    pub drawing: Drawing,
+    pub head: Head,
+}
 
 pub enum Stamped {
     Next(Head),
@@ -15,34 +28,93 @@ pub struct Rotated {
     pub head: Head,
 }
 
+// Every test stands in the four functions that come first, which are by value: what is then changed in place is a straight line.
+
+// "the id drawn is the old next id", and at M there is none.
+fn identifier_at(next_id: u64) -> Drawing
+    ensures { λ r. ⌜ r ≡ identifierAt «next_id» ⌝ }
+{
+    if next_id < M {
+        return Drawing::Identifier(Identifier(next_id));
+    }
+    Drawing::AllocatorExhausted
+}
+
+fn next_after(next_id: u64) -> u64
+    ensures { λ r. ⌜ r ≡ nextAfter «next_id» ⌝ }
+{
+    if next_id < M {
+        return next_id + 1;
+    }
+    next_id
+}
+
+fn since_baseline(baseline: u64, total: u64) -> u64
+    ensures { λ r. ⌜ r ≡ sinceBaseline baseline total ⌝ }
+{
+    if baseline < total {
+        return total - baseline;
+    }
+    0
+}
+
+fn larger(baseline: u64, total: u64) -> u64
+    ensures { λ r. ⌜ r ≡ larger baseline total ⌝ }
+{
+    if total <= baseline {
+        return baseline;
+    }
+    total
+}
+
+// "next id grows by 1", but for M: then the refusal, and the head as it was.
+pub fn draw(head: &mut Head) -> Drawing
+    ensures { λ r. ⌜ (r ≡ drawnHead (now (head .entry)) .drawing) × (now (head .exit) ≡ drawnHead (now (head .entry)) .head) ⌝ }
+{
+    let drawing = identifier_at(head.next_id);
+    head.next_id = next_after(head.next_id);
+    drawing
+}
+
+// "Since is committed total less baseline, and the baseline moves, only if .. the total is larger; else 0."
+pub fn rotate(head: &mut Head, total: u64) -> u64
+    ensures { λ r. ⌜ (r ≡ rotatedHead (now (head .entry)) total .since) × (now (head .exit) ≡ rotatedHead (now (head .entry)) total .head) ⌝ }
+{
+    let since = since_baseline(head.baseline, total);
+    head.baseline = larger(head.baseline, total);
+    since
+}
+
+// For every caller whose head does not stand behind a reference.
+pub fn after_draw(mut head: Head) -> Drawn
+    ensures { λ r. ⌜ r ≡ drawnHead head ⌝ }
+{
+    let drawing = draw(&mut head);
+    Drawn { drawing, head }
+}
+
+pub fn after_rotation(mut head: Head, total: u64) -> Rotated
+    ensures { λ r. ⌜ r ≡ rotatedHead head total ⌝ }
+{
+    let since = rotate(&mut head, total);
+    Rotated { since, head }
+}
+
+// "next id M gives 9 .. else next id grows by 1 and the version is 2^63 plus the new next id".
 pub fn stamp(head: Head) -> Stamped
     requires { ⌜ head .«next_id» ≤ M ⌝ }
     ensures { λ r. ⌜ r ≡ stampedHead head ⌝ }
 {
-    if head.next_id == 9223372036854775807 {
+    let drawn = after_draw(head);
+    let drawing = drawn.drawing;
+    let Drawing::Identifier(_identifier) = drawing else {
         return Stamped::AllocatorExhausted;
-    }
-    let next_id = head.next_id + 1;
-    let last_version = big_endian::tagged(next_id);
+    };
+    let next = drawn.head;
+    let last_version = big_endian::tagged(next.next_id);
     Stamped::Next(Head {
-        next_id,
+        next_id: next.next_id,
         last_version,
-        baseline: head.baseline,
+        baseline: next.baseline,
     })
-}
-
-pub fn rotate(head: Head, total: u64) -> Rotated
-    ensures { λ r. ⌜ r ≡ rotatedHead head total ⌝ }
-{
-    if total <= head.baseline {
-        return Rotated { since: 0, head };
-    }
-    Rotated {
-        since: total - head.baseline,
-        head: Head {
-            next_id: head.next_id,
-            last_version: head.last_version,
-            baseline: total,
-        },
-    }
 }

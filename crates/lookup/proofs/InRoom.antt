@@ -6,7 +6,6 @@ use native.Mathlib.Omega.{arith}
 use lib.ListN.{length, take, drop, getD}
 use lib.Seq.{drop-cons, drop-drop, take-take, getD-take, length-take-le}
 use Rattle.rules.specs.Lists.{All}
-use Rattle.rules.specs.RoomAndSoundLedger.{Name, order}
 use Rattle.numbers.specs.LittleEndian.{littleNumber}
 use Rattle.names.specs.Names.{spelled}
 use Rattle.records.specs.declared.Place.{Place}
@@ -48,11 +47,11 @@ module _ (xs : List ℕ) (s : Sized xs) where
   unfolding contentsOf
   loaded-booking = used-at bookingOf 18 (baseOf (sizesOf xs .names)) (sizesOf xs .reservations) (sizesOf xs .live) xs (s .live)
 
-  -- what `compare_at` compares
-  pub loaded-order : (i : ℕ) (d : Place) (a : Name) → i < sizesOf xs .used → order (spelled (placeOf (row 66 (56 + 66 * i) xs) .name)) a ≡ order (spelled (getD (usedPlaces (contentsOf xs)) i d .name)) a
-  loaded-order i d a h = ap (λ p. order (spelled (p .name)) a) (loaded-place i d h)
+  -- what `name_at` gives of a place in use
+  pub loaded-name : (i : ℕ) (d : Place) → i < sizesOf xs .used → spelled (placeOf (row 66 (56 + 66 * i) xs) .name) ≡ spelled (getD (usedPlaces (contentsOf xs)) i d .name)
+  loaded-name i d h = ap (λ p. spelled (p .name)) (loaded-place i d h)
 
-  -- what `compare_at` asks of a place in use
+  -- what `name_at` asks of a place in use
   pub name-in-room : (i : ℕ) → All (λ p. p .name .length ≤ 24) (usedPlaces (contentsOf xs)) → i < sizesOf xs .used
       → (56 + 66 * i + 66 ≤ length xs) × (placeOf (row 66 (56 + 66 * i) xs) .name .length ≤ 24)
   name-in-room i short h =

@@ -1,18 +1,17 @@
 -- A name among the places: where it stands, or that it stands at none; and where it would go.
 use mathlib.Core.Path.{_≡_, refl, sym, subst, _∙_}
 use mathlib.Core.Logic.{_≢_}
-use mathlib.Core.Bool.{Bool, true, false}
+use mathlib.Core.Bool.{Bool, false}
 use mathlib.Core.List.{List, [], _∷_}
 use Prim.Native.Nat.{ℕ, zero, suc, _≤_, _<_, Ordering·lt, Ordering·eq, Ordering·gt}
 use native.Mathlib.Nat.{not-suc-le-zero}
 use native.Mathlib.Omega.{arith}
-use lib.Dec.{isEq}
 use lib.ListN.{length, getD}
 use Rattle.rules.specs.Lists.{All}
 use Rattle.rules.specs.RoomAndSoundLedger.{Name, order, same}
-use Rattle.rules.proofs.Tests.{by-bool, by-order}
+use Rattle.rules.proofs.Tests.{by-order}
 use Rattle.rules.proofs.Lists.{all-map}
-use Rattle.rules.proofs.Names.{same-self, same-true, same-false, other}
+use Rattle.rules.proofs.Names.{same-true, same-false}
 use Rattle.names.specs.Names.{spelled}
 use Rattle.records.specs.declared.Place.{Place}
 use Rattle.contents.specs.declared.Found.{Found}
@@ -55,17 +54,6 @@ module _ (a : Name) where
   name-absent ps e =
       all-map (λ p. spells a p ≡ false) (λ p. spelled (p .name) ≢ a) (λ p h q. same-false a (spelled (p .name)) h (sym q)) ps
       (subst (FirstIs (spells a) noPlace ps) e (name-is noPlace ps))
-
-same-turned : (a b : Name) → same a b ≡ same b a
-same-turned a b =
-    by-bool (λ t. same b a ≡ t → same a b ≡ t) (same b a)
-    (λ _ e. subst (λ c. same a c ≡ true) (sym (same-true b a e)) (same-self a))
-    (λ _ e. other a b (λ q. same-false b a e (sym q))) refl
-
--- the rules ask by the name that is sought, the code compares the name that is kept
-pub spells-order : (a : Name) (p : Place) → spells a p ≡ isEq (order (spelled (p .name)) a)
-unfolding same
-spells-order a p = same-turned a (spelled (p .name))
 
 -- ── where a new name goes ──────────────────────────────────────────────────────────────────────
 

@@ -9,14 +9,18 @@ use Rattle.rules.specs.Lists.{All, Pairwise}
 use Rattle.rules.specs.RoomAndSoundLedger.{IsName, Ledger}
 use Rattle.rules.proofs.Lists.{all-map}
 use Rattle.rules.proofs.Keys.{all-images, pairwise-images}
-use Rattle.records.specs.Records.{sizesOf}
+use Rattle.records.specs.Records.{headOf, sizesOf}
 use Rattle.contents.specs.Contents.{contentsOf, Sized, usedPlaces, liveBookings}
-use Rattle.contents.specs.Room.{placeRecord, bookingRecord, filled, sizesIn, contentsIn, IsRoom}
+use Rattle.contents.specs.Room.{placeRecord, bookingRecord, filled, headIn, sizesIn, contentsIn, IsRoom}
 
 module _ (xs : List ℕ) (L : Ledger) (room : IsRoom xs L) where
   pub sizes-are : sizesOf xs ≡ sizesIn L
   unfolding contentsOf contentsIn
   sizes-are = ap (λ c. c .sizes) (room .holds)
+
+  pub head-is : headOf xs ≡ headIn L
+  unfolding contentsOf contentsIn
+  head-is = ap (λ c. c .head) (room .holds)
 
   pub places-are : usedPlaces (contentsOf xs) ≡ map placeRecord (L .places)
   unfolding contentsIn filled

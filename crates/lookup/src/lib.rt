@@ -5,22 +5,20 @@ ghost use mathlib.Core.Path.{_≡_};
 ghost use Prim.Native.Nat.{_+_, _*_, _≤_, _<_};
 ghost use lib.ListN.{length};
 ghost use Rattle.rules.specs.Lists.{All, Pairwise};
-ghost use Rattle.rules.specs.RoomAndSoundLedger.{order};
-ghost use Rattle.names.specs.Names.{orderingOf, spelled};
+ghost use Rattle.names.specs.Names.{spelled};
 ghost use Rattle.records.specs.Rows.{row};
 ghost use Rattle.records.specs.Records.{placeOf};
 ghost use Rattle.contents.specs.Contents.{contentsOf, Sized, usedPlaces, liveBookings, placeOfName, placeForName, bookingOfId};
 
-// The name at place i, where it stands in the room, against a part of what was received.
-fn compare_at(room: &[u8], i: usize, part: &[u8]) -> Order
+// The name at place i where it stands in the room: its length, and after that its bytes.
+fn name_at(room: &[u8], i: usize) -> &[u8]
     requires { ⌜ (56 + 66 * i + 66 ≤ length (now room)) × (placeOf (row 66 (56 + 66 * i) (now room)) .name .length ≤ 24) ⌝ }
-    ensures { λ r. ⌜ orderingOf r ≡ order (spelled (placeOf (row 66 (56 + 66 * i) (now (room .entry))) .name)) (now (part .entry)) ⌝ }
+    ensures { λ r. ⌜ now r ≡ spelled (placeOf (row 66 (56 + 66 * i) (now (room .entry))) .name) ⌝ }
 {
     let at = 97 + 66 * i;
-    let length = room[at] as usize;
     let from = at + 1;
-    let end = from + length;
-    names::compare(&room[from..end], part)
+    let end = from + (room[at] as usize);
+    &room[from..end]
 }
 
 // The place of a name, or that it is absent: place by place.
@@ -32,8 +30,7 @@ pub fn find(room: &[u8], part: &[u8]) -> Found
     let used = sizes.used as usize;
     let mut i = 0;
     while i < used {
-        let order = compare_at(room, i, part);
-        if let Order::Same = order {
+        if names::is_same(part, name_at(room, i)) {
             return Found::At(i);
         }
         i += 1;
@@ -50,7 +47,7 @@ pub fn place_for(room: &[u8], part: &[u8]) -> usize
     let used = sizes.used as usize;
     let mut i = 0;
     while i < used {
-        let Order::Before = compare_at(room, i, part) else {
+        let Order::Before = names::compare(name_at(room, i), part) else {
             return i;
         };
         i += 1;

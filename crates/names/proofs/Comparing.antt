@@ -1,7 +1,7 @@
 -- Two lists of bytes compared from an index on.
 use mathlib.Core.Path.{_≡_, refl}
 use mathlib.Core.List.{List}
-use Prim.Native.Nat.{ℕ, _+_, _≤_, _<_, compare, Ordering·lt, Ordering·eq, Ordering·gt}
+use Prim.Native.Nat.{ℕ, suc, _+_, _-_, _≤_, _<_, compare, Ordering·lt, Ordering·eq, Ordering·gt}
 use native.Mathlib.Numerals.{add-one}
 use native.Mathlib.Omega.{arith}
 use lib.ListN.{length, getD, drop, drop-of-length-le}
@@ -30,3 +30,9 @@ module _ (a b : List ℕ) (i : ℕ) where
   pub both-ended : length a ≤ i → length b ≤ i → order (drop i a) (drop i b) ≡ Ordering·eq
   unfolding order
   both-ended ha hb = rw (drop-of-length-le a ha, drop-of-length-le b hb)
+
+-- what stands from the byte before on is the same, where that byte is and what stands behind it
+pub same-before : (a b : List ℕ) (i : ℕ) → 0 < i → i ≤ length a → i ≤ length b → getD a (i - 1) 0 ≡ getD b (i - 1) 0 → drop i a ≡ drop i b → drop (i - 1) a ≡ drop (i - 1) b
+same-before a b i p ha hb e h =
+    let s : suc (i - 1) ≡ i = omega arith in
+    rw (drop-cons a (i - 1) 0 (omega arith), drop-cons b (i - 1) 0 (omega arith), s, e, h)

@@ -2,7 +2,7 @@
 ghost use mathlib.Core.Path.{_≡_};
 ghost use Prim.Native.Nat.{_≤_};
 ghost use lib.ListN.{length};
-ghost use Rattle.rules.specs.RoomAndSoundLedger.{order};
+ghost use Rattle.rules.specs.RoomAndSoundLedger.{order, same};
 ghost use Rattle.names.specs.Names.{orderingOf, spelled, stored};
 
 pub enum Order {
@@ -39,6 +39,23 @@ pub fn compare(left: &[u8], right: &[u8]) -> Order
         return Order::Before;
     }
     Order::Same
+}
+
+// Whether two names are one name. Names of airlines often begin alike, so their lengths are asked first and then their bytes, the last first.
+pub fn is_same(left: &[u8], right: &[u8]) -> bool
+    ensures { λ r. ⌜ r ≡ same (now (left .entry)) (now (right .entry)) ⌝ }
+{
+    if left.len() != right.len() {
+        return false;
+    }
+    let mut i = left.len();
+    while 0 < i {
+        i -= 1;
+        if left[i] != right[i] {
+            return false;
+        }
+    }
+    true
 }
 
 // A name that is kept, against a part of what was received.

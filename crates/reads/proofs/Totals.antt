@@ -23,9 +23,8 @@ use Rattle.records.specs.Records.{sizesOf, headOf, placeOf}
 use Rattle.records.specs.declared.Place.{Place}
 use Rattle.records.specs.declared.Head.{Head}
 use Rattle.records.specs.declared.Sizes.{Sizes}
-use Rattle.contents.specs.Contents.{contentsOf}
-use Rattle.contents.specs.Room.{placeRecord, headIn, contentsIn, IsRoom}
-use Rattle.lookup.proofs.SoundRoom.{sizes-are, sized}
+use Rattle.contents.specs.Room.{placeRecord, IsRoom}
+use Rattle.lookup.proofs.SoundRoom.{sizes-are, head-is, sized}
 use Rattle.reads.specs.Answers.{summed}
 use Rattle.reads.proofs.Sums.{sumTo, sum-next, sum-all, sum-within}
 
@@ -122,17 +121,13 @@ module _ (xs : List ℕ) (L : Ledger) (room : IsRoom xs L) where
   unfolding readLedger
   live-is s e = ap (λ t. done (Count (t .live) ∷ [])) (e ∙ sizes-are xs L room)
 
-  head-is : headOf xs ≡ headIn L
-  unfolding contentsOf contentsIn
-  head-is = ap (λ c. c .head) (room .holds)
-
   module _ (h : Head) (e : h ≡ headOf xs) where
     pub version-is : done (Version (h .«last_version») ∷ []) ≡ readLedger L readLastVersion
     unfolding readLedger
-    version-is = ap (λ g. done (Version (g .«last_version») ∷ [])) (e ∙ head-is)
+    version-is = ap (λ g. done (Version (g .«last_version») ∷ [])) (e ∙ head-is xs L room)
 
     baseline-is : h .baseline ≡ L .baseline
-    baseline-is = ap (λ g. g .baseline) (e ∙ head-is)
+    baseline-is = ap (λ g. g .baseline) (e ∙ head-is xs L room)
 
     pub baseline-small : h .baseline ≤ M
     baseline-small = omega (arith, baseline-is, room .sound .baseline-in-range .0)

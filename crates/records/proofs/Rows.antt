@@ -153,3 +153,23 @@ module _ {A : Type 0} (read : List ℕ → A) (k b n : ℕ) where
   -- what is put apart from the table leaves it
   pub table-apart : (m j : ℕ) (xs w : List ℕ) → m + j ≤ length xs → length w ≡ j → (b + k * n ≤ m) ⊎ (m + j ≤ b) → table read k b n (put m j xs w) ≡ table read k b n xs
   table-apart m j xs w l e h = table-row (put m j xs w) xs (row-apart m j xs w l e (k * n) b h)
+
+-- a table read at fewer rows, and from a row on
+module _ {A : Type 0} (read : List ℕ → A) (k : ℕ) where
+  first-rows : (n m : ℕ) (ys : List ℕ) → n ≤ m → take n (map read (rows k m ys)) ≡ map read (rows k n ys)
+  first-rows zero m ys h = refl
+  first-rows (suc n) zero ys h = absurd (not-suc-le-zero h)
+  first-rows (suc n) (suc m) ys h = ap (λ t. read (take k ys) ∷ t) (first-rows n m (drop k ys) (le-of-suc-le-suc h))
+
+  last-rows : (n m : ℕ) (ys : List ℕ) → drop n (map read (rows k (n + m) ys)) ≡ map read (rows k m (drop (k * n) ys))
+  last-rows zero m ys = rw (zero-add, mul-zero)
+  last-rows (suc n) m ys = rw (suc-add, mul-suc, add-comm (k * n) k, ← drop-drop) (last-rows n m (drop k ys))
+
+  module _ (b : ℕ) (xs : List ℕ) where
+    pub table-take : (n m : ℕ) → n ≤ m → take n (table read k b m xs) ≡ table read k b n xs
+    table-take n m h = first-rows n m (drop b xs) h
+
+    pub table-drop : (n m : ℕ) → n ≤ m → drop n (table read k b m xs) ≡ table read k (b + k * n) (m - n) xs
+    table-drop n m h =
+        let e : m ≡ n + (m - n) = omega arith in
+        ap (λ t. drop n (table read k b t xs)) e ∙ last-rows n (m - n) (drop b xs) ∙ ap (λ ys. map read (rows k (m - n) ys)) (drop-drop (k * n) b xs)

@@ -20,6 +20,7 @@ use Rattle.moves.specs.declared.Reserving.the-variants as reserving
 use Rattle.records.specs.declared.Place.{Place}
 use Rattle.records.specs.declared.Head.{Head}
 use Rattle.records.specs.Records.{headOf}
+use Rattle.heads.specs.Heads.{afterDraw}
 use Rattle.contents.specs.Contents.{contentsOf, usedPlaces, placeOfName, withHead, appendedBooking}
 use Rattle.contents.specs.Room.{placeNumber, headIn, contentsIn, IsRoom, Performs}
 use Rattle.contents.specs.Seats.{FoundIn, seatFound, withSeat}
@@ -30,9 +31,9 @@ use Rattle.contents.proofs.Steps.{id-drawn}
 use Rattle.contents.proofs.Seating.{seat-found, kept-account, kept-limit, seat-sound}
 use Rattle.contents.proofs.Settling.{booked-contents}
 use Rattle.lookup.proofs.Places.{noPlace, name-found}
-use Rattle.lookup.proofs.SoundRoom.{places-are}
+use Rattle.lookup.proofs.SoundRoom.{head-is, places-are}
 use Rattle.reservations.specs.Answers.{reservedReply}
-use Rattle.reservations.specs.Steps.{drawnHead, Booked, granted, full}
+use Rattle.reservations.specs.Steps.{Booked, granted, full}
 use Rattle.reservations.specs.declared.Reserved.{Reserved}
 use Rattle.reservations.proofs.Fitting.{MoveFits, reserve-fits}
 use Rattle.reservations.proofs.Performing.{stays, becomes}
@@ -71,11 +72,6 @@ module _ (xs : List ℕ) (L : Ledger) (room : IsRoom xs L) (a : Name) where
   abbrev searched : List Place
   searched = usedPlaces (contentsOf xs)
 
-  -- the head that is loaded is the ledger's
-  pub head-is : (h : Head) → h ≡ headOf xs → h ≡ headIn L
-  unfolding contentsOf contentsIn
-  head-is h e = e ∙ ap (λ c. c .head) (room .holds)
-
   -- the seat that is found is the name's, in its one form
   pub seat-is : (f : Found) → f ≡ placeOfName a searched → (s : Seat) → s ≡ seatFound f searched → s ≡ keptSeat (seatIn a ps)
   seat-is f e s q = q ∙ ap (λ g. seatFound g searched) e ∙ ap (λ qs. seatFound (placeOfName a qs) qs) (places-are xs L room) ∙ seat-found a ps
@@ -86,7 +82,7 @@ module _ (xs : List ℕ) (L : Ledger) (room : IsRoom xs L) (a : Name) where
   -- the next id is below M where it is not M
   pub next-below : (h : Head) → h ≡ headOf xs → nextIdIsM L ≡ false → h .«next_id» < M
   next-below h e f =
-      let q : h .«next_id» ≡ L .nextId = ap (λ (g : Head). g .«next_id») (head-is h e) in
+      let q : h .«next_id» ≡ L .nextId = ap (λ (g : Head). g .«next_id») (e ∙ head-is xs L room) in
       let n : L .nextId ≡ M → ⊥ = eqb-false (L .nextId) M f in
       omega (arith, room .sound .next-id)
 
@@ -120,7 +116,7 @@ module _ (xs : List ℕ) (L : Ledger) (room : IsRoom xs L) (a : Name) where
         let own : RulesSeat = seatIn a ps in
         let rule : Move = reserveRule (nextIdIsM L) (own .limit) (reserveChecks z (own .account) (own .limit)) in
         let is : reservingMove z r ≡ rule =
-        m ∙ ap (λ t. ruleAt t (h .«next_id»)) (seat-is f e s q) ∙ ap (λ (g : Head). ruleAt (keptSeat own) (g .«next_id»)) (head-is h k)
+        m ∙ ap (λ t. ruleAt t (h .«next_id»)) (seat-is f e s q) ∙ ap (λ (g : Head). ruleAt (keptSeat own) (g .«next_id»)) (k ∙ head-is xs L room)
         ∙ ap₂ (λ l c. reserveRule (nextIdIsM L) l (reserveChecks z c l)) (kept-limit own) (kept-account own) in
         let named : operate L (reserve a z) ≡ perform L a rule = unfold operate onName in rw (le-ltb 24 (length a) short) in
         record {
@@ -137,22 +133,22 @@ module _ (xs : List ℕ) (L : Ledger) (room : IsRoom xs L) (a : Name) where
     module _ (bytes : IsBytes a) (amount : IsAmount z) (h : Head) (loaded : h ≡ headOf xs) where
       -- an id drawn and lost
       pub loses : (remaining cost : ℕ) → Decided L a z (reserving.Insufficient remaining cost) → (t : Reply) → t ≡ replyOf (Insufficient remaining (pos cost))
-          → (ys : List ℕ) → length ys ≡ length xs → contentsOf ys ≡ withHead (drawnHead h) (contentsOf xs) → Performs (λ K. operate K (reserve a z)) L t ys
+          → (ys : List ℕ) → length ys ≡ length xs → contentsOf ys ≡ withHead (afterDraw h) (contentsOf xs) → Performs (λ K. operate K (reserve a z)) L t ys
       loses remaining cost d t q ys l k =
           becomes (reserve a z) L xs room (bytes, amount) t (replyOf (Insufficient remaining (pos cost))) (drawn L) (d .move ∙ (unfold perform in refl)) q refl refl ys l
-          (k ∙ ap₂ (λ g c. withHead (drawnHead g) c) (head-is h loaded) (room .holds) ∙ id-drawn L)
+          (k ∙ ap₂ (λ g c. withHead (afterDraw g) c) (loaded ∙ head-is xs L room) (room .holds) ∙ id-drawn L)
 
       pub books : (s : Seat) (cost : ℕ) → Decided L a z (reserving.Booked s cost) → (i : ℕ) → At i ≡ placeOfName a searched → {r : Reserved} {ys : List ℕ} → Booked i s cost h xs r ys → Performs (λ K. operate K (reserve a z)) L (reservedReply r) ys
       unfolding contentsIn
       books s cost d i e (granted remaining id ys left p q l k) =
           let n : i ≡ placeNumber a ps = number-is (d .fits .1) i e in
-          let g : h ≡ headIn L = head-is h loaded in
+          let g : h ≡ headIn L = loaded ∙ head-is xs L room in
           let live : contentsOf xs .sizes .live ≡ length (L .bookings) = ap (λ c. c .sizes .live) (room .holds) in
           let most : contentsOf xs .sizes .reservations ≡ L .R = ap (λ c. c .sizes .reservations) (room .holds) in
           let fits : length (L .bookings) < L .R = omega arith in
-          let stepped : withHead (drawnHead h) (appendedBooking (record { id = h .«next_id»; amount = cost; owner = i }) (withSeat i s (contentsOf xs)))
+          let stepped : withHead (afterDraw h) (appendedBooking (record { id = h .«next_id»; amount = cost; owner = i }) (withSeat i s (contentsOf xs)))
           ≡ withHead (headIn (drawn L)) (appendedBooking (record { id = L .nextId; amount = cost; owner = placeNumber a ps }) (withSeat (placeNumber a ps) s (contentsIn L)))
-          = (λ j. withHead (drawnHead (g j)) (appendedBooking (record { id = g j .«next_id»; amount = cost; owner = n j }) (withSeat (n j) s (room .holds j)))) in
+          = (λ j. withHead (afterDraw (g j)) (appendedBooking (record { id = g j .«next_id»; amount = cost; owner = n j }) (withSeat (n j) s (room .holds j)))) in
           becomes (reserve a z) L xs room (bytes, amount) _ (grantedReply (pos (s .remaining)) (L .nextId)) (bookedLedger L a (meaning s) cost) (d .move ∙ performed-booking L a (s .remaining) (meaning s) cost fits) (ap₂ grantedReply p (q ∙ ap (λ (f : Head). f .«next_id») g)) refl refl ys l
           (k ∙ stepped ∙ booked-contents L (room .sound) a s (d .sound) (d .fits .2) (holds (d .fits .1)) cost fits)
       books s cost d i e (full n) =

@@ -2,7 +2,7 @@
 -- live reservation.
 use mathlib.Core.Path.{_≡_}
 use mathlib.Core.List.{List, []}
-use Prim.Native.Nat.{ℕ, suc, _<_}
+use Prim.Native.Nat.{ℕ, _<_}
 use lib.IntN.{pos}
 use lib.ListN.{length, getD}
 use Rattle.rules.specs.RoomAndSoundLedger.{Booking as RulesBooking, Ledger, seatIn}
@@ -11,6 +11,7 @@ use Rattle.numbers.specs.declared.Identifier.{Identifier}
 use Rattle.moves.specs.declared.Seat.{Seat}
 use Rattle.moves.specs.Moves.{keptSeat}
 use Rattle.records.specs.declared.Head.{Head}
+use Rattle.heads.specs.Heads.{afterDraw}
 use Rattle.contents.specs.Contents.{contentsOf, withHead, appendedBooking}
 use Rattle.contents.specs.Room.{placeNumber}
 use Rattle.contents.specs.Seats.{withSeat}
@@ -18,14 +19,10 @@ use Rattle.reservations.specs.declared.Due.{Due}
 use Rattle.reservations.specs.declared.Reserved.{Reserved}
 use Rattle.reservations.specs.declared.Reserved.the-variants.{Granted, ReservationsFull}
 
--- "next id grows by 1"
-abbrev pub drawnHead : Head → Head
-drawnHead h = record { «next_id» = suc (h .«next_id»); «last_version» = h .«last_version»; baseline = h .baseline }
-
 pub data Booked (i : ℕ) (s : Seat) (cost : ℕ) (h : Head) (xs : List ℕ) : Reserved → List ℕ → Type 0 where
   granted : (remaining : Microcents) (id : Identifier) (ys : List ℕ) → contentsOf xs .sizes .live < contentsOf xs .sizes .reservations
       → remaining .0 ≡ pos (s .remaining) → id .0 ≡ h .«next_id» → length ys ≡ length xs
-      → contentsOf ys ≡ withHead (drawnHead h) (appendedBooking (record { id = h .«next_id»; amount = cost; owner = i }) (withSeat i s (contentsOf xs)))
+      → contentsOf ys ≡ withHead (afterDraw h) (appendedBooking (record { id = h .«next_id»; amount = cost; owner = i }) (withSeat i s (contentsOf xs)))
       → Booked i s cost h xs (Granted remaining id) ys
   full : contentsOf xs .sizes .live ≡ contentsOf xs .sizes .reservations → Booked i s cost h xs ReservationsFull xs
 

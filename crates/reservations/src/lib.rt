@@ -15,11 +15,12 @@ ghost use lib.ListN.{length};
 ghost use Rattle.rules.specs.RoomAndSoundLedger.{M, Ledger};
 ghost use Rattle.rules.specs.AnswerNumbers.{replyOf};
 ghost use Rattle.rules.specs.AccountRules.{reserve, commit, release, commitOfNone, operate};
+ghost use Rattle.heads.specs.Heads.{afterDraw};
 ghost use Rattle.contents.specs.Contents.{contentsOf, Sized, withHead, removedBooking};
 ghost use Rattle.contents.specs.Room.{SoundRoom, IsRoom, Performs};
 ghost use Rattle.contents.specs.Seats.{withSeat};
 ghost use Rattle.reservations.specs.Answers.{reservedReply, committedReply, releasedReply};
-ghost use Rattle.reservations.specs.Steps.{drawnHead, Booked, dueAt};
+ghost use Rattle.reservations.specs.Steps.{Booked, dueAt};
 
 // UnsoundLedger is given by the operations on any memory that stand above these.
 pub enum Reserved {
@@ -57,17 +58,13 @@ struct Due {
     seat: Seat,
 }
 
-// An id is drawn: next id grows by 1.
+// An id is drawn: next id grows by 1. A reserve that finds next id M is refused before, so that an id is left here.
 fn draw(room: &mut [u8], head: Head)
     requires { ⌜ Sized (now room) × (head .«next_id» < M) ⌝ }
-    ensures { λ _. ⌜ (length (now (room .exit)) ≡ length (now (room .entry))) × (contentsOf (now (room .exit)) ≡ withHead (drawnHead head) (contentsOf (now (room .entry)))) ⌝ }
+    ensures { λ _. ⌜ (length (now (room .exit)) ≡ length (now (room .entry))) × (contentsOf (now (room .exit)) ≡ withHead (afterDraw head) (contentsOf (now (room .entry)))) ⌝ }
 {
-    let drawn = Head {
-        next_id: head.next_id + 1,
-        last_version: head.last_version,
-        baseline: head.baseline,
-    };
-    tables::put_head(room, drawn);
+    let drawn = heads::after_draw(head);
+    tables::put_head(room, drawn.head);
 }
 
 // "R live gives 21, no id drawn; else the id drawn is the old next id."

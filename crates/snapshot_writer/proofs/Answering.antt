@@ -16,7 +16,7 @@ use Rattle.rules.specs.Frames.{takeSnapshot, longestSnapshot, answer}
 use Rattle.rules.proofs.Tests.{by-test, by-bool}
 use Rattle.rules.proofs.SnapshotSoundness.{answer-sound}
 use Rattle.rules.proofs.EveryLine.{own-snapshot-has-room}
-use Rattle.records.specs.Records.{sizesOf, headOf}
+use Rattle.records.specs.Records.{sizesOf}
 use Rattle.records.specs.declared.Head.{Head}
 use Rattle.records.specs.declared.Sizes.{Sizes}
 use Rattle.heads.specs.Heads.{stampedHead}
@@ -107,10 +107,6 @@ promise : (size : ℕ) (L : Ledger) (o : Outcome) (r : Reply) (ys : List ℕ) �
 promise size L o r ys e q k = record { answer = q ∙ sym (ap (λ o. o .reply) e); room = subst (λ (o : Outcome). IsRoom ys (o .ledger)) (sym e) k }
 
 module _ (xs : List ℕ) (L : Ledger) (room : IsRoom xs L) where
-  pub head-is : headOf xs ≡ headIn L
-  unfolding contentsOf contentsIn
-  head-is = ap (λ c. c .head) (room .holds)
-
   pub answers-exhausted : (size : ℕ) → stampedHead (headIn L) ≡ stamped.AllocatorExhausted → Performs (snapshot size) L (replyOf AllocatorExhausted) xs
   answers-exhausted size e = promise size L (refused AllocatorExhausted L) _ xs (exhausts L size (stamp-exhausts L e)) refl room
 

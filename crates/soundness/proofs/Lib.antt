@@ -7,10 +7,13 @@ pub mod Bookings
 pub mod Zeros
 pub mod Parts
 pub mod Fresh
+pub mod Joined
+pub mod ClearBytes
+pub mod NameBytes
+pub mod Words
 pub mod Indices
 pub mod Owners
 pub mod Kept
-pub mod NameBytes
 pub mod FactsToSound
 pub mod SoundToFacts
 pub mod Sound

@@ -5,10 +5,9 @@ use Prim.Native.Nat.{ℕ, _+_, _*_, _≤_, _<_}
 use native.Mathlib.Omega.{arith}
 use lib.ListN.{length, take, drop, getD}
 use lib.Seq.{drop-cons, drop-drop, take-take}
-use Rattle.names.specs.Names.{spelled}
 use Rattle.numbers.specs.LittleEndian.{littleNumber}
 use Rattle.records.specs.Rows.{row}
-use Rattle.records.proofs.Rows.{row-front}
+use Rattle.records.proofs.Rows.{row-front, row-length}
 use Rattle.soundness.specs.Steps.{placeAt}
 
 -- a row of a row
@@ -28,8 +27,15 @@ module _ (i : ℕ) (xs : List ℕ) where
       let e : 56 + 66 * i + 41 ≡ 97 + 66 * i = omega arith in
       ap littleNumber (row-row 1 41 66 (56 + 66 * i) xs (omega arith) ∙ ap (λ m. row 1 m xs) e ∙ row-one (97 + 66 * i) xs (omega arith)) ∙ byte-number (getD xs (97 + 66 * i) 0)
 
-  pub name-stands : 56 + 66 * i + 66 ≤ length xs → placeAt i xs .name .length ≤ 24 → row (getD xs (97 + 66 * i) 0) (97 + 66 * i + 1) xs ≡ spelled (placeAt i xs .name)
-  name-stands h l =
-      let n = placeAt i xs .name .length in
-      let e : 56 + 66 * i + 42 ≡ 97 + 66 * i + 1 = omega arith in
-      sym (ap (take n) (row-row 24 42 66 (56 + 66 * i) xs (omega arith)) ∙ take-take n 24 (drop (56 + 66 * i + 42) xs) l ∙ ap (λ m. row n m xs) e ∙ ap (λ k. row k (97 + 66 * i + 1) xs) (length-stands h))
+  abbrev nameBytes : List ℕ
+  nameBytes = placeAt i xs .name .bytes
+
+  bytes-stand : nameBytes ≡ row 24 (98 + 66 * i) xs
+  bytes-stand = let e : 56 + 66 * i + 42 ≡ 98 + 66 * i = omega arith in row-row 24 42 66 (56 + 66 * i) xs (omega arith) ∙ ap (λ m. row 24 m xs) e
+
+  pub bytes-width : 56 + 66 * i + 66 ≤ length xs → length nameBytes ≡ 24
+  bytes-width h = ap length bytes-stand ∙ row-length 24 (98 + 66 * i) xs (omega arith)
+
+  -- eight of its bytes
+  pub part-stands : (p : ℕ) → p < 3 → row 8 (98 + 66 * i + 8 * p) xs ≡ row 8 (8 * p) nameBytes
+  part-stands p h = sym (ap (row 8 (8 * p)) bytes-stand ∙ row-row 8 (8 * p) 24 (98 + 66 * i) xs (omega arith))

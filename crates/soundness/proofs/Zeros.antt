@@ -12,11 +12,10 @@ use Rattle.rules.specs.RoomAndSoundLedger.{IsByte}
 use Rattle.names.proofs.Storing.{getD-repeat, drop-repeat, is-repeat}
 use Rattle.numbers.proofs.Bytes.{all-at}
 use Rattle.records.specs.Rows.{row, rows, table}
-use Rattle.records.proofs.Rows.{row-length, rows-within, joined}
+use Rattle.records.proofs.Rows.{row-length, rows-within, joined, table-drop}
 use Rattle.records.proofs.Room.{table-bytes}
 use Rattle.soundness.specs.Steps.{ZeroBelow}
 use Rattle.soundness.proofs.Deciding.{less-or-not}
-use Rattle.soundness.proofs.Tables.{table-drop}
 
 abbrev pub zeros : ℕ → List ℕ
 zeros n = replicate n 0

@@ -1,18 +1,17 @@
 // Whether lent memory is the room of a sound ledger, and the making of a fresh one. Every clause of document 01's paragraph is asked: once over the
 // places, once over the bookings, and once over the room not in use.
-use names::Name;
-use names::Order;
 use records::Booking;
 use records::Head;
 use records::Place;
 use records::Sizes;
 ghost use mathlib.Core.Path.{_≡_};
 ghost use mathlib.Core.Bool.{true, false};
-ghost use Prim.Native.Nat.{_+_, _-_, _*_, _≤_, _<_};
+ghost use Prim.Native.Nat.{_+_, _-_, _*_, _^_, _≤_, _<_};
 ghost use lib.ListN.{length, replicate};
 ghost use Rattle.rules.specs.RoomAndSoundLedger.{M, InRange, isVacant};
-ghost use Rattle.names.specs.Names.{spelled, IsStored};
+ghost use Rattle.names.specs.Names.{IsStored};
 ghost use Rattle.moves.specs.Moves.{meaning, SeatSound};
+ghost use Rattle.records.specs.Rows.{row};
 ghost use Rattle.records.specs.Records.{sizesOf, headOf, places, bookings};
 ghost use Rattle.contents.specs.Contents.{contentsOf};
 ghost use Rattle.contents.specs.Room.{SoundRoom};
@@ -76,24 +75,6 @@ fn head_sound(head: Head) -> bool
     version_sound(head.last_version)
 }
 
-// "bytes past the length zero"
-fn name_sound(name: Name) -> bool
-    ensures { λ r. ⌜ Decides (IsStored name) r ⌝ }
-{
-    if 24 < name.length {
-        return false;
-    }
-    let bytes = name.bytes;
-    let mut i = name.length as usize;
-    while i < 24 {
-        if bytes[i] != 0 {
-            return false;
-        }
-        i += 1;
-    }
-    true
-}
-
 // "remaining, reserved and committed at least 0, adding up exactly to initial, itself at most M": by differences, so that no sum can wrap
 fn adds_up(place: Place) -> bool
     ensures { λ r. ⌜ Decides ((place .remaining + place .reserved + place .committed ≡ place .initial) × (place .initial ≤ M)) r ⌝ }
@@ -130,14 +111,14 @@ fn amounts_sound(place: Place) -> bool
     place.limit != 0
 }
 
-// What of the baseline the committed amounts so far have not reached.
-fn uncovered(left: u64, committed: u64) -> u64
-    ensures { λ r. ⌜ r ≡ left - committed ⌝ }
+// What is left of a number; nothing, where more is taken from it.
+fn less(number: u64, taken: u64) -> u64
+    ensures { λ r. ⌜ r ≡ number - taken ⌝ }
 {
-    if left < committed {
+    if number < taken {
         return 0;
     }
-    left - committed
+    number - taken
 }
 
 // One pass over the places: each is sound, names ascend, the committed total reaches the baseline; what each has reserved is noted.
@@ -154,62 +135,106 @@ fn places_sound(room: &[u8], used: usize, baseline: u64, reserved: &mut [u64]) -
         if !amounts_sound(place) {
             return false;
         }
-        let name = place.name;
-        if !name_sound(name) {
+        if !name_sound(room, i) {
             return false;
         }
         if !ascends(room, i) {
             return false;
         }
-        left = uncovered(left, place.committed);
+        left = less(left, place.committed);
         reserved[i] = place.reserved;
         i += 1;
     }
     left == 0
 }
 
-// The name at i where it stands in the room: its length, and after that its bytes.
-fn name_at(room: &[u8], i: usize) -> &[u8]
-    requires within { ⌜ 56 + 66 * i + 66 ≤ length (now room) ⌝ }
-    requires fits { ⌜ placeAt i (now room) .name .length ≤ 24 ⌝ }
-    ensures { λ r. ⌜ now r ≡ spelled (placeAt i (now (room .entry)) .name) ⌝ }
+// The length of the name at i.
+fn name_length(room: &[u8], i: usize) -> u8
+    requires { ⌜ 56 + 66 * i + 66 ≤ length (now room) ⌝ }
+    ensures { λ r. ⌜ r ≡ placeAt i (now (room .entry)) .name .length ⌝ }
 {
-    let at = 97 + 66 * i;
-    let from = at + 1;
-    let end = from + (room[at] as usize);
+    room[97 + 66 * i]
+}
+
+// Eight bytes of the name at i, where they stand in the room: a name has three such parts.
+fn name_part(room: &[u8], i: usize, part: usize) -> &[u8]
+    requires within { ⌜ 56 + 66 * i + 66 ≤ length (now room) ⌝ }
+    requires third { ⌜ part < 3 ⌝ }
+    ensures stands { λ r. ⌜ now r ≡ row 8 (8 * part) (placeAt i (now (room .entry)) .name .bytes) ⌝ }
+    ensures width { λ r. ⌜ length (now r) ≡ 8 ⌝ }
+{
+    let from = 98 + 66 * i + 8 * part;
+    let end = from + 8;
     &room[from..end]
 }
 
-// The name at i comes after the one before it, if there is one. Both are compared where they stand.
+// Whether eight bytes, as a number with the lowest first, are zero from one of them on.
+fn is_clear(word: u64, from: u64) -> bool
+    ensures { λ r. ⌜ Decides (word < 2 ^ (8 * from)) r ⌝ }
+{
+    if 8 <= from {
+        return true;
+    }
+    word >> (8 * from) == 0
+}
+
+// "bytes past the length zero"
+fn name_sound(room: &[u8], i: usize) -> bool
+    requires { ⌜ 56 + 66 * i + 66 ≤ length (now room) ⌝ }
+    ensures { λ r. ⌜ Decides (IsStored (placeAt i (now (room .entry)) .name)) r ⌝ }
+{
+    let length = name_length(room, i) as u64;
+    if 24 < length {
+        return false;
+    }
+    let mut part = 0;
+    while part < 3 {
+        let word = numbers::read8(name_part(room, i, part));
+        if !is_clear(word, less(length, 8 * (part as u64))) {
+            return false;
+        }
+        part += 1;
+    }
+    true
+}
+
+// The name at i comes after the one before it, if there is one. Eight bytes with the highest first are in the order of their numbers; where all
+// are the same, the bytes past the shorter name are zeros of the longer.
 fn ascends(room: &[u8], i: usize) -> bool
     requires within { ⌜ 56 + 66 * i + 66 ≤ length (now room) ⌝ }
-    requires before { ⌜ (0 < i → placeAt (i - 1) (now room) .name .length ≤ 24) ⌝ }
-    requires here { ⌜ placeAt i (now room) .name .length ≤ 24 ⌝ }
+    requires before { ⌜ (0 < i → IsStored (placeAt (i - 1) (now room) .name)) ⌝ }
+    requires here { ⌜ IsStored (placeAt i (now room) .name) ⌝ }
     ensures { λ r. ⌜ Decides (NameFollows i (now (room .entry))) r ⌝ }
 {
     if i == 0 {
         return true;
     }
-    let order = names::compare(name_at(room, i - 1), name_at(room, i));
-    match order {
-        Order::Before => true,
-        Order::Same => false,
-        Order::After => false,
+    let mut k = 0;
+    while k < 3 {
+        let before = big_endian::read8(name_part(room, i - 1, k));
+        let here = big_endian::read8(name_part(room, i, k));
+        if before < here {
+            return true;
+        }
+        if here < before {
+            return false;
+        }
+        k += 1;
     }
+    name_length(room, i - 1) < name_length(room, i)
 }
 
-// "room not in use is zero"
+// "room not in use is zero". All bytes are joined and the result is asked once: a loop without a way out compiles to steps of many bytes.
 fn is_zero(part: &[u8]) -> bool
     ensures { λ r. ⌜ Decides (ZeroBelow (length (now (part .entry))) (now (part .entry))) r ⌝ }
 {
+    let mut joined = 0u8;
     let mut i = 0;
     while i < part.len() {
-        if part[i] != 0 {
-            return false;
-        }
+        joined = joined | part[i];
         i += 1;
     }
-    true
+    joined == 0
 }
 
 // A live booking: "strictly ascending ids from 1 to below next id, a positive amount"; its owner is a place in use.
@@ -265,14 +290,13 @@ fn nothing_left(reserved: &[u64], used: usize) -> bool
     requires { ⌜ used ≤ length (now reserved) ⌝ }
     ensures { λ r. ⌜ Decides (ZeroBelow used (now (reserved .entry))) r ⌝ }
 {
+    let mut joined = 0u64;
     let mut i = 0;
     while i < used {
-        if reserved[i] != 0 {
-            return false;
-        }
+        joined = joined | reserved[i];
         i += 1;
     }
-    true
+    joined == 0
 }
 
 // The tables of a room whose sizes and head are sound.

@@ -1,3 +1,4 @@
 pub mod Moving
+pub mod Gap
 pub mod Stores
 pub mod Whole

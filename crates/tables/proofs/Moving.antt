@@ -74,7 +74,7 @@ module _ {A : Type 0} where
 
   module _ (i m : ℕ) (z : A) (xs : List A) (h : i < m) (l : m < length xs) where
     -- the entry behind those moved is as it was
-    pub down-read : (x : A) → getD (closed i m x xs) m z ≡ getD xs m z
+    down-read : (x : A) → getD (closed i m x xs) m z ≡ getD xs m z
     unfolding closed
     down-read x =
         let moved : List A = take i xs ++ drop (suc i) (take m xs) in

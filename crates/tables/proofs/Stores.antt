@@ -1,7 +1,8 @@
 -- What a store in a room means to its contents, and a load from it.
 use mathlib.Core.Path.{_≡_, refl, sym, ap, subst, _∙_}
+use mathlib.Core.Logic.{inl}
 use mathlib.Core.List.{List, []}
-use Prim.Native.Nat.{ℕ, _+_, _*_, _≤_, _<_, _^_}
+use Prim.Native.Nat.{ℕ, suc, _+_, _*_, _≤_, _<_, _^_}
 use native.Mathlib.Omega.{arith}
 use lib.ListN.{length, getD, drop, set}
 use Rattle.numbers.proofs.Bytes.{all-take, all-drop}
@@ -13,11 +14,12 @@ use Rattle.records.specs.declared.Head.{Head}
 use Rattle.records.specs.declared.Sizes.{Sizes}
 use Rattle.records.specs.Rows.{row, put}
 use Rattle.records.specs.Records.{placeOf, placeBytes, PlaceFits, bookingOf, bookingBytes, BookingFits, headOf, headBytes, HeadFits, sizesOf, pairBytes, places, bookings}
-use Rattle.records.proofs.Rows.{row-length, put-length, table-length, table-at}
+use Rattle.records.proofs.Rows.{row-length, put-length, table-length, table-at, table-apart}
 use Rattle.records.proofs.Records.{place-length, booking-length, booking-fits, head-length, pair-length}
-use Rattle.records.proofs.Room.{Holds, place-stored, booking-stored, head-stored, counts-stored}
+use Rattle.records.proofs.Room.{Holds, head-apart, sizes-apart, place-stored, booking-stored, head-stored, counts-stored}
 use Rattle.contents.specs.Contents.{Contents, contents, contentsOf, Sized, baseOf, roomSize, withCounts, withHead, withPlace, renumbered}
-use Rattle.tables.specs.Steps.{Becomes, onPlaces, onBookings, onCounts, withBooking}
+use Rattle.tables.specs.Steps.{Becomes, onPlaces, onBookings, onCounts, withBooking, movedDown}
+use Rattle.tables.proofs.Gap.{gap-closed}
 use Rattle.tables.proofs.Moving.{other-default, renumbered-read, renumbered-turn, renumbered-kept}
 
 -- ── the sizes ──────────────────────────────────────────────────────────────────────────────────
@@ -152,6 +154,25 @@ module _ (xs ys : List ℕ) (s : Sized xs) where
       leaves (baseOf names + 18 * i) 18 (bookingBytes b) _ _ _ _ (omega (arith, s .size)) (booking-length b)
       (booking-stored names (baseOf names) reservations xs (omega arith) (omega (arith, s .size)) i b h f)
 
+  -- the bytes of later bookings moved one booking nearer
+  pub bookings-moved : (i c n : ℕ) (z : Booking) → suc (i + c) ≡ n → n ≤ contentsOf xs .sizes .reservations
+      → ys ≡ put (baseOf (contentsOf xs .sizes .names) + 18 * i) (18 * c) xs (row (18 * c) (baseOf (contentsOf xs .sizes .names) + 18 * suc i) xs)
+      → Becomes (onBookings (movedDown i n z)) xs ys
+  unfolding contentsOf
+  bookings-moved i c n z e h =
+      let from = baseOf names + 18 * i in
+      let w = row (18 * c) (baseOf names + 18 * suc i) xs in
+      let fits : from + 18 * c ≤ length xs = omega (arith, s .size) in
+      let l : length w ≡ 18 * c = row-length (18 * c) (baseOf names + 18 * suc i) xs (omega (arith, s .size)) in
+      leaves from (18 * c) w _ _ _ _ fits l
+      (record {
+        sizes = sizes-apart from (18 * c) xs w fits l (inl (omega arith)) (inl (omega arith));
+        head = head-apart from (18 * c) xs w fits l (inl (omega arith));
+        places = table-apart placeOf 66 56 names from (18 * c) xs w fits l (inl (omega arith));
+        bookings = gap-closed bookingOf 18 (baseOf names) reservations xs i c (omega arith) (omega (arith, s .size)) z
+            ∙ ap (λ m. movedDown i m z (bookings (baseOf names) reservations xs)) e;
+      })
+
 -- the counts last
 pub counted : (f h : Contents → Contents) (xs ys zs : List ℕ) (used live : ℕ) → Sized ys → Becomes f xs ys → (zs ≡ put 40 16 ys (pairBytes used live)) × ((used < 2 ^ 64) × (live < 2 ^ 64))
     → onCounts used live (f (contentsOf xs)) ≡ h (contentsOf xs) → Becomes h xs zs
@@ -191,7 +212,7 @@ module _ (xs ys : List ℕ) (f : List Booking → List Booking) (b : Becomes (on
   still-at : base ≡ baseOf (contentsOf ys .sizes .names)
   still-at = at ∙ sym (ap (λ c. baseOf (c .sizes .names)) (b .1))
 
-  pub booking-read : (from : ℕ) (z k : Booking) → from < contentsOf xs .sizes .reservations → k ≡ bookingOf (row 18 (base + 18 * from) ys) → k ≡ getD (f (contentsOf xs .bookings)) from z
+  booking-read : (from : ℕ) (z k : Booking) → from < contentsOf xs .sizes .reservations → k ≡ bookingOf (row 18 (base + 18 * from) ys) → k ≡ getD (f (contentsOf xs .bookings)) from z
   booking-read from z k h e =
       e ∙ ap (λ n. bookingOf (row 18 (n + 18 * from) ys)) still-at ∙ booking-loaded ys from z (rw (b .1) h) ∙ ap (λ c. getD (c .bookings) from z) (b .1)
 

@@ -4,8 +4,9 @@ use records::Booking;
 use records::Head;
 use records::Place;
 ghost use mathlib.Core.Path.{_≡_};
-ghost use Prim.Native.Nat.{_+_, _*_, _≤_, _<_};
-ghost use lib.ListN.{length, take};
+ghost use mathlib.Core.List.{_++_};
+ghost use Prim.Native.Nat.{_+_, _-_, _*_, _≤_, _<_};
+ghost use lib.ListN.{length, take, drop};
 ghost use Rattle.rules.specs.Lists.{All};
 ghost use Rattle.contents.specs.Contents.{contentsOf, Sized, baseOf, emptyPlace, emptyBooking, withOwner, raised, lowered, renumbered, liveBookings, withHead, withPlace, insertedPlace, freedPlace, appendedBooking, removedBooking};
 ghost use Rattle.tables.specs.Steps.{Becomes, onPlaces, onBookings, movedUp, movedDown};
@@ -51,17 +52,28 @@ fn move_places_down(room: &mut [u8], i: usize, used: usize)
     }
 }
 
-// Bookings behind i come one nearer, the first first. What stood last stands there still.
+// Bytes come one booking nearer, the first first; the last 18 stand where they stood still. This compiles to one move of memory, which the same
+// by bookings does not.
+fn close_gap(part: &mut [u8])
+    requires { ⌜ 18 ≤ length (now part) ⌝ }
+    ensures { λ _. ⌜ now (part .exit) ≡ drop 18 (now (part .entry)) ++ drop (length (now (part .entry)) - 18) (now (part .entry)) ⌝ }
+{
+    let stop = part.len() - 18;
+    let mut k = 0;
+    while k < stop {
+        part[k] = part[k + 18];
+        k += 1;
+    }
+}
+
+// Bookings behind i come one nearer. What stood last stands there still.
 fn move_bookings_down(room: &mut [u8], base: usize, i: usize, live: usize)
     requires { ⌜ Sized (now room) × (base ≡ baseOf (contentsOf (now room) .sizes .names)) × (i < live) × (live ≤ contentsOf (now room) .sizes .reservations) ⌝ }
     ensures { λ _. ⌜ Becomes (onBookings (movedDown i live emptyBooking)) (now (room .entry)) (now (room .exit)) ⌝ }
 {
-    let mut j = i + 1;
-    while j < live {
-        let moved = records::load_booking(room, base, j);
-        records::store_booking(room, base, j - 1, moved);
-        j += 1;
-    }
+    let from = base + 18 * i;
+    let end = base + 18 * live;
+    close_gap(&mut room[from..end]);
 }
 
 fn with_owner(booking: Booking, owner: u64) -> Booking

@@ -23,7 +23,7 @@ returns-3 c rs total totals is-total =
     let g = n .before .before in
     let t = g .before .before in
     let f = told-fit rs (t .before .before .args .totals) totals _ _ (t .totals .given .1) in
-    c .rotate .ensures ∙ rotated rs (t .before .before .args .head) total is-total _ _ f (n .total .given .0 .0) (sym (g .sign-of .ensures) ∙ n .total .given .1)
+    c .after-rotation .ensures ∙ rotated rs (t .before .before .args .head) total is-total _ _ f (n .total .given .0 .0) (sym (g .sign-of .ensures) ∙ n .total .given .1)
 
 pub rotation-spec : {M : Type 1} → statement M
 rotation-spec =

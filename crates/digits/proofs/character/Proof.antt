@@ -1,14 +1,12 @@
--- `digits::character` meets its contract.
+-- `digits::character` meets its contract: the lent table's rule at the digit.
 use borrow.Author.Needs.{needs}
-use borrow.Author.Tests.{lt-ltb, le-ltb}
+use Rattle.digits.specs.Tables.{Gives}
 use Rattle.digits.proofs.character.Statement.{statement}
 use Rattle.digits.proofs.character.Tie as tie
 
 returns : tie.Need-returns
-returns c = rw (lt-ltb (c .before .args .digit) 10 (search needs))
-
-returns-2 : tie.Need-returns-2
-returns-2 c = rw (le-ltb (c .before .args .digit) 10 (search needs))
+unfolding Gives
+returns c = c .before .pre .0 (c .before .args .digit) (c .before .pre .1)
 
 pub character-spec : {M : Type 1} → statement M
-character-spec = tie.close (tie.spec (λ c. search needs) returns (λ c. search needs) returns-2)
+character-spec = tie.close (tie.spec (λ c. search needs) returns)

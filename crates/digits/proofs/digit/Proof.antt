@@ -1,12 +1,12 @@
--- `digits::digit` meets its contract: the code's 256 entries are computed to be those of `digitOf`.
+-- `digits::digit` meets its contract: the lent table's rule at the character.
 use borrow.Author.Needs.{needs}
-use Rattle.rules.specs.Frames.{digitOf}
-use Rattle.digits.proofs.Tables.{entry}
+use Rattle.digits.specs.Tables.{Gives}
 use Rattle.digits.proofs.digit.Statement.{statement}
 use Rattle.digits.proofs.digit.Tie as tie
 
 returns : tie.Need-returns
-returns c = entry digitOf 256 (c .args .character) (search needs)
+unfolding Gives
+returns c = c .before .pre (c .before .args .character) (search needs)
 
 pub digit-spec : {M : Type 1} → statement M
 digit-spec = tie.close (tie.spec (λ c. search needs) returns)

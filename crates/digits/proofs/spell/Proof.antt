@@ -4,33 +4,43 @@ use Prim.Native.Nat.{suc, _-_, _≤_}
 use native.Mathlib.Omega.{arith}
 use borrow.Author.Needs.{needs}
 use lib.ListN.{length, length-set}
+use Rattle.rules.specs.Frames.{characterOf}
+use Rattle.digits.specs.Tables.{Gives}
+use Rattle.digits.proofs.Tables.{gives}
 use Rattle.digits.proofs.Spelling.{Underway, begun, turn}
 use Rattle.digits.proofs.spell.Statement.{statement}
 use Rattle.digits.proofs.spell.Tie as tie
 
 abbrev Inv-loop : tie.InvT-loop
-Inv-loop output₀ size i₀ output i = (i ≤ size) × (length output ≡ length output₀) × Underway output₀ size output i
+Inv-loop output₀ size table i₀ output i = (i ≤ size) × (length output ≡ length output₀) × Underway output₀ size output i × Gives characterOf 16 table
 
 abbrev μ-loop : tie.MeasureT-loop
-μ-loop output₀ size i₀ output i = i
+μ-loop output₀ size table i₀ output i = i
 
 loop-holds : tie.Need-loop-holds Inv-loop μ-loop
-loop-holds c = let a = c .before .args in (omega arith, refl, begun (a .output .now) (a .size))
+loop-holds c = let a = c .before .args in (omega arith, refl, begun (a .output .now) (a .size), gives characterOf 16)
 
 character-requires-2 : tie.Need-character-requires-2 Inv-loop μ-loop
-character-requires-2 c κs = omega (arith, c .before .slice-known2 .given (c .before .before .before .loop .i - 1))
+character-requires-2 c κs =
+    let k = c .before .before .before in
+    let o = k .before .before .loop in (
+      o .inv .3,
+      omega (arith, k .slice-known2 .given (o .i - 1)),
+    )
 
 loop-again : tie.Need-loop-again Inv-loop μ-loop
 loop-again c =
-    let l = c .before .before .before .before in
+    let e = c .before .before in
+    let l = e .before .before .before .before in
     let o = l .loop in
     let a = l .before .before .args in
     let i = o .i - 1 in
     let next : o .i ≡ suc i = omega arith in (
       omega arith,
       simp length-set (o .inv .1),
-      turn (a .output .now) (a .size) (o .output) i (c .character2 .result) (c .before .character .result) (omega arith) (omega arith) (omega arith)
-          (subst (Underway (a .output .now) (a .size) (o .output)) next (o .inv .2)) (c .character2 .ensures) (c .before .character .ensures),
+      turn (a .output .now) (a .size) (o .output) i (c .character2 .result) (e .character .result) (omega arith) (omega arith) (omega arith)
+          (subst (Underway (a .output .now) (a .size) (o .output)) next (o .inv .2)) (c .character2 .ensures) (e .character .ensures),
+      o .inv .3,
     )
 
 returns : tie.Need-returns Inv-loop μ-loop

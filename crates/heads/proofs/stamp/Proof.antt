@@ -1,28 +1,48 @@
 -- `heads::stamp` meets its contract.
-use native.Mathlib.Numerals.{add-one}
+use mathlib.Core.Path.{_≡_, sym, ap, _∙_}
+use Prim.Native.Nat.{ℕ, _<_}
 use native.Mathlib.Omega.{arith}
+use borrow.Author.Needs.{needs}
 use borrow.Author.Tests.{eq-eqb, ne-eqb}
 use Rattle.rules.specs.RoomAndSoundLedger.{M}
+use Rattle.rules.specs.SnapshotsMigrationCertificates.{tagged}
+use Rattle.records.specs.declared.Head.{Head}
+use Rattle.heads.specs.Heads.{afterDraw}
+use Rattle.heads.specs.declared.Stamped.the-variants.{Next}
+use Rattle.heads.proofs.Draws.{none-left, one-left, head-drawn}
 use Rattle.heads.proofs.stamp.Statement.{statement}
 use Rattle.heads.proofs.stamp.Tie as tie
 
 returns : tie.Need-returns
-unfolding M
-returns c = rw (eq-eqb (c .before .before .args .head .«next_id») M (omega arith))
+returns c =
+    let d = c .before .before in
+    let s = d .before in
+    let n : ℕ = s .args .head .«next_id» in
+    rw (eq-eqb n M (omega (arith, s .pre, none-left n (sym (ap (λ r. r .drawing) (d .after-draw .ensures)) ∙ c .enum-told .given .1))))
 
-add-next-id : tie.Need-add-next-id
-unfolding M
-add-next-id c = record { fits = omega arith }
+module _ (c : tie.After-known-told) where
+  abbrev drew : tie.After-after-draw
+  drew = c .before .before .before
+
+  abbrev head : Head
+  head = drew .before .args .head
+
+  small : head .«next_id» < M
+  small = one-left (head .«next_id») _ (sym (ap (λ r. r .drawing) (drew .after-draw .ensures)) ∙ c .before .drawing .given .1)
+
+  next : drew .after-draw .result .head ≡ afterDraw head
+  next = ap (λ r. r .head) (drew .after-draw .ensures) ∙ head-drawn head small
 
 tagged-requires : tie.Need-tagged-requires
-unfolding M
-tagged-requires c κs = omega arith
+tagged-requires c κs = omega (arith, ap (λ g. g .«next_id») (next (c .before)), small (c .before))
 
 returns-2 : tie.Need-returns-2
-unfolding M
 returns-2 c =
-    let a = c .before .before .before .before .args in
-    rw (ne-eqb (a .head .«next_id») M (λ e. omega arith), c .tagged .ensures, add-one)
+    let k = c .before .before in
+    let h = head k in
+    let version = c .tagged .ensures ∙ ap (λ g. tagged (g .«next_id»)) (next k) in
+    (λ i. Next (record { «next_id» = next k i .«next_id»; «last_version» = version i; baseline = next k i .baseline }))
+    ∙ (rw (ne-eqb (h .«next_id») M (λ e. omega (arith, small k))))
 
 pub stamp-spec : {M : Type 1} → statement M
-stamp-spec = tie.close (tie.spec returns add-next-id tagged-requires returns-2)
+stamp-spec = tie.close (tie.spec (λ c κs. search needs) (λ c. search needs) (λ c. search needs) returns tagged-requires returns-2)

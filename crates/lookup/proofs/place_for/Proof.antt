@@ -14,7 +14,7 @@ use Rattle.names.specs.Names.{orderingOf, spelled}
 use Rattle.names.proofs.Order.{enum}
 use Rattle.records.specs.Records.{sizesOf}
 use Rattle.contents.specs.Contents.{contentsOf, usedPlaces}
-use Rattle.lookup.proofs.InRoom.{used-places, loaded-order, name-in-room}
+use Rattle.lookup.proofs.InRoom.{used-places, loaded-name, name-in-room}
 use Rattle.lookup.proofs.Places.{noPlace, eq-not-lt, gt-not-lt, goes-only}
 use Rattle.lookup.proofs.place_for.Statement.{statement}
 use Rattle.lookup.proofs.place_for.Tie as tie
@@ -35,38 +35,39 @@ abbrev μ-loop : tie.MeasureT-loop
 in-use : (c : tie.After-load-sizes Inv-loop μ-loop) → c .load-sizes .result .used ≡ sizesOf (c .before .before .before .args .room .now) .used
 in-use c = ap (λ s. s .used) (c .load-sizes .ensures)
 
-compared : (c : tie.After-compare-at Inv-loop μ-loop) →
-    let l = c .before .before in
+compared : (c : tie.After-compare Inv-loop μ-loop) →
+    let l = c .before .before .before in
     let s = l .before .before .before .before in
-    orderingOf (c .compare-at .result) ≡ order (spelled (getD (usedPlaces (contentsOf (s .args .room .now))) (l .loop .i) noPlace .name)) (s .args .part .now)
+    orderingOf (c .compare .result) ≡ order (spelled (getD (usedPlaces (contentsOf (s .args .room .now))) (l .loop .i) noPlace .name)) (s .args .part .now)
 compared c =
-    let l = c .before .before in
+    let l = c .before .before .before in
     let s = l .before .before .before .before in
-    c .compare-at .ensures ∙ loaded-order (s .args .room .now) (s .pre .0) (l .loop .i) noPlace (s .args .part .now) (omega (arith, in-use (l .before)))
+    let kept = c .before .name-at .ensures ∙ loaded-name (s .args .room .now) (s .pre .0) (l .loop .i) noPlace (omega (arith, in-use (l .before))) in
+    c .compare .ensures ∙ ap (λ n. order n (s .args .part .now)) kept
 
 load-sizes-requires : tie.Need-load-sizes-requires Inv-loop μ-loop
 load-sizes-requires c κs = omega (arith, c .before .before .pre .0 .size)
 
-compare-at-requires : tie.Need-compare-at-requires Inv-loop μ-loop
-compare-at-requires c κs =
+name-at-requires : tie.Need-name-at-requires Inv-loop μ-loop
+name-at-requires c κs =
     let s = c .before .before .before .before .before in
     name-in-room (s .args .room .now) (s .pre .0) (c .before .loop .i) (s .pre .1) (omega (arith, in-use (c .before .before)))
 
 returns : tie.Need-returns Inv-loop μ-loop
 returns c =
-    let l = c .before .before .before in
+    let l = c .before .before .before .before in
     let s = l .before .before .before .before in
     let ps = usedPlaces (contentsOf (s .args .room .now)) in
     goes-only (s .args .part .now) noPlace ps (l .loop .i)
     (record {
       within = omega (arith, in-use (l .before), used-places (s .args .room .now) (s .pre .0));
       behind = l .loop .inv .1;
-      stops = λ h e. other-tag (c .before .compare-at .result) (c .match .keys2) (compared (c .before) ∙ e);
+      stops = λ h e. other-tag (c .before .compare .result) (c .match .keys2) (compared (c .before) ∙ e);
     })
 
 loop-again : tie.Need-loop-again Inv-loop μ-loop
 loop-again c =
-    let l = c .before .before .before .before in
+    let l = c .before .before .before .before .before in
     (omega arith, below-more _ (l .loop .i) (l .loop .inv .1) (sym (compared (c .before .before)) ∙ ap orderingOf (c .enum-told .given .1)))
 
 returns-2 : tie.Need-returns-2 Inv-loop μ-loop
@@ -86,7 +87,8 @@ place-for-spec =
     μ-loop
     load-sizes-requires
     (λ c. (omega arith, below-none _))
-    compare-at-requires
+    name-at-requires
+    (λ c κs. search needs)
     (λ c. search needs)
     returns
     (λ c. search needs)

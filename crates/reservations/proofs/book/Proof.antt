@@ -3,9 +3,10 @@ use mathlib.Core.Path.{_≡_, refl, sym, ap, _∙_}
 use Prim.Native.Nat.{_<_}
 use native.Mathlib.Omega.{arith}
 use borrow.Author.Needs.{needs}
+use Rattle.heads.specs.Heads.{afterDraw}
 use Rattle.contents.specs.Contents.{contentsOf, Sized, withHead, appendedBooking}
 use Rattle.tables.proofs.Stores.{sized-by, loaded}
-use Rattle.reservations.specs.Steps.{drawnHead, granted, full}
+use Rattle.reservations.specs.Steps.{granted, full}
 use Rattle.reservations.proofs.Stepping.{seated-sizes, seated-sized, appended-sized}
 use Rattle.reservations.proofs.book.Statement.{statement}
 use Rattle.reservations.proofs.book.Tie as tie
@@ -59,7 +60,7 @@ returns-2 c =
     let appended = c .before .before .before .before .before .before .before .append-booking .ensures in
     let drew = c .before .before .before .draw .ensures in
     granted (c .amount .result) _ _ (room-left e) (c .amount .ensures) refl (drew .0 ∙ appended .0 ∙ put .0)
-    (drew .1 ∙ ap (withHead (drawnHead (s .args .head))) (appended .1 ∙ ap (appendedBooking _) (put .1)))
+    (drew .1 ∙ ap (withHead (afterDraw (s .args .head))) (appended .1 ∙ ap (appendedBooking _) (put .1)))
 
 pub book-spec : {M : Type 1} → statement M
 book-spec =

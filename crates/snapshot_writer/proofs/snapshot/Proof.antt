@@ -12,9 +12,9 @@ use Rattle.rules.specs.SnapshotsMigrationCertificates.{rowBytes, accountRows, s
 use Rattle.records.specs.declared.Head.{Head}
 use Rattle.heads.specs.Heads.{stampedHead}
 use Rattle.contents.specs.Room.{headIn, IsRoom}
-use Rattle.lookup.proofs.SoundRoom.{sized}
+use Rattle.lookup.proofs.SoundRoom.{head-is, sized}
 use Rattle.snapshot_writer.proofs.PlaceRows.{snapshot-size}
-use Rattle.snapshot_writer.proofs.Answering.{WrittenInto, written-out, head-is, answers-exhausted, answers-short, answers-written}
+use Rattle.snapshot_writer.proofs.Answering.{WrittenInto, written-out, answers-exhausted, answers-short, answers-written}
 use Rattle.snapshot_writer.proofs.snapshot.Statement.{statement}
 use Rattle.snapshot_writer.proofs.snapshot.Tie as tie
 

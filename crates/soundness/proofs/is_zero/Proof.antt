@@ -1,31 +1,25 @@
 -- `soundness::is_zero` meets its contract.
 use Prim.Native.Nat.{_-_, _≤_}
 use native.Mathlib.Omega.{arith}
-use borrow.Author.Count.{below-none, below-more}
 use borrow.Author.Needs.{needs}
 use lib.ListN.{length}
-use Rattle.soundness.specs.Steps.{ZeroBelow}
-use Rattle.soundness.proofs.Deciding.{accept, refuse}
+use Rattle.soundness.proofs.Joined.{Joins, joins-none, joins-more, joins-all}
 use Rattle.soundness.proofs.is_zero.Statement.{statement}
 use Rattle.soundness.proofs.is_zero.Tie as tie
 
 abbrev Inv-loop : tie.InvT-loop
-Inv-loop part i₀ i = (i ≤ length part) × ZeroBelow i part
+Inv-loop part joined₀ i₀ joined i = (i ≤ length part) × Joins i joined part
 
 abbrev μ-loop : tie.MeasureT-loop
-μ-loop part i₀ i = length part - i
-
-loop-holds : tie.Need-loop-holds Inv-loop μ-loop
-loop-holds c = (omega arith, below-none _)
-
-returns : tie.Need-returns Inv-loop μ-loop
-returns c = refuse (λ h. c .if1 .taken (h _ (c .before .before .loop-test .taken)))
+μ-loop part joined₀ i₀ joined i = length part - i
 
 loop-again : tie.Need-loop-again Inv-loop μ-loop
-loop-again c = (omega arith, below-more _ _ (c .before .before .before .loop .inv .1) (c .if1 .left))
+loop-again c = (omega arith, joins-more _ _ _ (c .before .before .loop .inv .1))
 
-returns-2 : tie.Need-returns-2 Inv-loop μ-loop
-returns-2 c = accept (λ i h. c .before .loop .inv .1 i (omega arith))
+returns : tie.Need-returns Inv-loop μ-loop
+returns c = joins-all _ _ _ _ (omega arith) (c .before .loop .inv .1)
 
 pub is-zero-spec : {M : Type 1} → statement M
-is-zero-spec = tie.close (tie.spec Inv-loop μ-loop loop-holds (λ c. search needs) returns (λ c. search needs) (λ c. search needs) loop-again returns-2)
+is-zero-spec =
+    tie.close
+    (tie.spec Inv-loop μ-loop (λ c. (omega arith, joins-none _)) (λ c. search needs) (λ c. search needs) (λ c. search needs) loop-again returns)

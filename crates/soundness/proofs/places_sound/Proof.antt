@@ -7,8 +7,11 @@ use borrow.Author.Needs.{needs}
 use lib.ListN.{length, take, set, length-set}
 use Rattle.rules.specs.Lists.{sum, All, Pairwise}
 use Rattle.rules.proofs.Tests.{true-false}
+use Rattle.rules.specs.RoomAndSoundLedger.{isVacant}
+use Rattle.moves.specs.Moves.{meaning, SeatSound}
 use Rattle.records.specs.Records.{placeOf, places}
-use Rattle.soundness.specs.Facts.{NameBefore, PlaceSound, PlacesSound}
+use mathlib.Core.Bool.{false}
+use Rattle.soundness.specs.Facts.{seatAt, NameBefore, PlaceSound, PlacesSound}
 use Rattle.soundness.specs.Steps.{placeAt, Noted}
 use Rattle.soundness.proofs.Deciding.{refuse, refused, accepted, by-equal}
 use Rattle.soundness.proofs.Places.{committedBy, sound-more, ascend-more, left-more, noted-more, place-sound, name-follows}
@@ -31,35 +34,37 @@ loaded : (c : tie.After-load-place Inv-loop μ-loop) → let a = entry (c .befor
 loaded c sound = subst PlaceSound (sym (c .load-place .ensures)) (place-sound _ _ _ _ sound (c .before .loop-test .taken))
 
 -- the place passed the tests on itself
-passed : (c : tie.Else2 Inv-loop μ-loop) → let l = c .before .before .before .before .before .before .before in PlaceSound (placeAt (l .loop .i) (entry l .args .room .now))
+passed : (c : tie.Else2 Inv-loop μ-loop) → let l = c .before .before .before .before .before .before in PlaceSound (placeAt (l .loop .i) (entry l .args .room .now))
 passed c =
-    let amounts = c .before .before .before in
-    let seat = accepted (amounts .before .amounts-sound .ensures) (amounts .if1 .left) in
-    subst PlaceSound (amounts .before .before .load-place .ensures)
-    (record { name = accepted (c .before .name-sound .ensures) (c .if2 .left); seat = seat .0; held = seat .1 })
+    let amounts = c .before .before in
+    let seat =
+    subst (λ p. SeatSound (seatAt p) × (isVacant (meaning (seatAt p)) ≡ false)) (amounts .before .before .load-place .ensures)
+    (accepted (amounts .before .amounts-sound .ensures) (amounts .if1 .left)) in
+    record { name = accepted (c .before .name-sound .ensures) (c .if2 .left); seat = seat .0; held = seat .1 }
 
 returns : tie.Need-returns Inv-loop μ-loop
 returns c = (refuse (λ sound. let p = loaded (c .before .before) sound in refused (c .before .amounts-sound .ensures) (c .if1 .taken) (p .seat, p .held)), λ e. true-false e refl)
 
 returns-2 : tie.Need-returns-2 Inv-loop μ-loop
-returns-2 c = (refuse (λ sound. refused (c .before .name-sound .ensures) (c .if2 .taken) (loaded (c .before .before .before .before .before) sound .name)), λ e. true-false e refl)
+returns-2 c =
+    (refuse (λ sound. refused (c .before .name-sound .ensures) (c .if2 .taken) (place-sound _ _ _ _ sound (c .before .before .before .before .before .loop-test .taken) .name)), λ e. true-false e refl)
 
 ascends-requires : tie.Need-ascends-requires Inv-loop μ-loop
 ascends-requires c κs =
-    let l = c .before .before .before .before .before .before .before in
+    let l = c .before .before .before .before .before .before in
     let room = entry l .args .room .now in
     let i = l .loop .i in
-    (omega arith, (λ h. table-all placeOf 66 56 room PlaceSound i (i - 1) (l .loop .inv .2) (omega arith) .name .fits, passed c .name .fits))
+    (omega arith, (λ h. table-all placeOf 66 56 room PlaceSound i (i - 1) (l .loop .inv .2) (omega arith) .name, passed c .name))
 
 returns-3 : tie.Need-returns-3 Inv-loop μ-loop
 returns-3 c =
-    let l = c .before .before .before .before .before .before .before .before in
+    let l = c .before .before .before .before .before .before .before in
     (refuse (λ sound. refused (c .before .ascends .ensures) (c .if3 .taken) (name-follows _ _ _ _ sound (l .loop-test .taken))), λ e. true-false e refl)
 
 loop-again : tie.Need-loop-again Inv-loop μ-loop
 loop-again c =
-    let l = c .before .before .before .before .before .before .before .before .before .before in
-    let place = c .before .before .before .before .before .before .before .before .load-place .ensures in
+    let l = c .before .before .before .before .before .before .before .before .before in
+    let place = c .before .before .before .before .before .before .before .load-place .ensures in
     let room = entry l .args .room .now in
     let i = l .loop .i in
     let inv = l .loop .inv in (
@@ -67,7 +72,7 @@ loop-again c =
       simp length-set (inv .1),
       sound-more room i (inv .2) (passed (c .before .before .before)),
       ascend-more room i (inv .3) (accepted (c .before .before .ascends .ensures) (c .before .if3 .left)),
-      c .uncovered .ensures ∙ ap (λ p. l .loop .left - p .committed) place ∙ left-more room _ (l .loop .left) i (inv .4),
+      c .less .ensures ∙ ap (λ p. l .loop .left - p .committed) place ∙ left-more room _ (l .loop .left) i (inv .4),
       ap (λ p. take (i + 1) (set (l .loop .reserved) i (p .reserved))) place ∙ noted-more room i (l .loop .reserved) (omega arith) (inv .5),
     )
 

@@ -1,0 +1,15 @@
+-- `heads::since_baseline` meets its contract.
+use native.Mathlib.Omega.{arith}
+use borrow.Author.Needs.{needs}
+use borrow.Author.Tests.{lt-ltb, le-ltb}
+use Rattle.heads.proofs.since_baseline.Statement.{statement}
+use Rattle.heads.proofs.since_baseline.Tie as tie
+
+returns : tie.Need-returns
+returns c = let a = c .before .args in rw (lt-ltb (a .baseline) (a .total) (omega arith))
+
+returns-2 : tie.Need-returns-2
+returns-2 c = let a = c .before .args in rw (le-ltb (a .baseline) (a .total) (omega arith))
+
+pub since-baseline-spec : {M : Type 1} → statement M
+since-baseline-spec = tie.close (tie.spec (λ c. search needs) returns returns-2)
