@@ -1,6 +1,5 @@
 // Judging a supplied snapshot: conservation row by row, and the checks of a restore or a migration in their order.
 use names::Name;
-use names::Order;
 use numbers::Microcents;
 use totals::Fitted;
 ghost use mathlib.Core.Path.{_≡_};
@@ -123,8 +122,7 @@ fn seen_earlier(bytes: &[u8], at: usize) -> bool
     while earlier < at {
         let earlier_from = earlier + 1;
         let earlier_end = snapshot_reader::name_end(bytes, earlier);
-        let order = names::compare(&bytes[from..end], &bytes[earlier_from..earlier_end]);
-        if let Order::Same = order {
+        if names::is_same(&bytes[from..end], &bytes[earlier_from..earlier_end]) {
             return true;
         }
         earlier = earlier_end + 32;

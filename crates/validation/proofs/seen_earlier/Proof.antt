@@ -1,21 +1,14 @@
 -- `validation::seen_earlier` meets its contract. The invariant: the pass goes towards the row, and no row passed has its name.
 use mathlib.Core.Path.{_≡_, refl, sym, ap, _∙_}
-use mathlib.Core.Logic.{_⊎_, inl, inr}
 use mathlib.Core.Bool.{true, false}
 use mathlib.Core.List.{List, _∷_}
 use Prim.Native.Nat.{ℕ, _+_, _-_, _≤_, _<_}
 use native.Mathlib.Omega.{arith}
 use borrow.Author.Needs.{needs}
-use denote.Enum.Declared.{tagOf, declared}
-use lib.Dec.{isEq}
 use lib.ListN.{length}
 use Rattle.rules.specs.Lists.{any}
-use Rattle.rules.specs.RoomAndSoundLedger.{order, same}
+use Rattle.rules.specs.RoomAndSoundLedger.{same}
 use Rattle.rules.specs.SnapshotsMigrationCertificates.{Row}
-use Rattle.names.specs.declared.Order.{Order}
-use Rattle.names.specs.declared.Order.the-variants.{Before, Same, After}
-use Rattle.names.specs.Names.{orderingOf}
-use Rattle.names.proofs.Order.{enum}
 use Rattle.snapshot_reader.specs.Standing.{RowsFrom, RowStands, RowOf, Passed, EndsName}
 use Rattle.snapshot_reader.proofs.Header.{header}
 use Rattle.snapshot_reader.proofs.Rows.{AtRow, start, at-row, forward, advance}
@@ -24,13 +17,6 @@ use Rattle.validation.proofs.Seen.{isNamed, any-before, any-there, seen
 use Rattle.validation.proofs.Standing.{part-is-name}
 use Rattle.validation.proofs.seen_earlier.Statement.{statement}
 use Rattle.validation.proofs.seen_earlier.Tie as tie
-
--- an answer by another tag than `Same`'s
-other-tag : (o : Order) → (tagOf (declared enum) o ≡ 0) ⊎ (tagOf (declared enum) o ≡ 2) → isEq (orderingOf o) ≡ false
-other-tag Before h = refl
-other-tag Same (inl h) = absurd (omega arith)
-other-tag Same (inr h) = absurd (omega arith)
-other-tag After h = refl
 
 abbrev Unseen : {bs : List ℕ} {at : ℕ} → RowOf bs at → (earlier later : List Row) → Type 0
 Unseen here earlier later = Towards (here .earlier) (here .row ∷ here .later) earlier later × (any (isNamed (here .row .name)) earlier ≡ false)
@@ -68,16 +54,15 @@ ends-there c = let a = there (c .before) (entry (c .before .before) .pre) in c .
 
 -- ── the two names ──────────────────────────────────────────────────────────────────────────────
 
-module _ (c : tie.After-compare Inv-loop μ-loop) where
+module _ (c : tie.After-is-same Inv-loop μ-loop) where
   abbrev turn : tie.In-loop Inv-loop μ-loop
   turn = c .before .before .before .before
 
-  compared : (here : Here turn) (row : Row) (later : List Row) → RowsFrom (bytes turn) (turn .before .loop .earlier) (row ∷ later) → same (here .row .name) (row .name) ≡ isEq (orderingOf (c .compare .result))
-  unfolding same
+  compared : (here : Here turn) (row : Row) (later : List Row) → RowsFrom (bytes turn) (turn .before .loop .earlier) (row ∷ later) → same (here .row .name) (row .name) ≡ c .is-same .result
   compared here row later from =
       let left = part-is-name (turn .before .before .name-end .ensures (here .row) (here .later) (here .from)) in
       let right = part-is-name (c .before .before .before .name-end2 .ensures row later from) in
-      ap isEq (sym (c .compare .ensures ∙ λ i. order (left i) (right i)))
+      sym (c .is-same .ensures ∙ λ i. same (left i) (right i))
 
 loop-holds : tie.Need-loop-holds Inv-loop μ-loop
 unfolding any
@@ -85,10 +70,10 @@ loop-holds c here = start (header _ (here .snapshot) (here .is-read) .from) (tow
 
 returns : tie.Need-returns Inv-loop μ-loop
 returns c here =
-    let found = c .before .before in
+    let found = c .before in
     let a = there (turn found) here in
     let t = towards-turn (here .from) (a .from) (turn found .loop-test .taken) (a .so-far .0) in
-    let named : same (here .row .name) (a .row .name) ≡ true = compared found here (a .row) (a .later) (a .from) ∙ ap (λ o. isEq (orderingOf o)) (c .enum-told .given .1) in
+    let named : same (here .row .name) (a .row .name) ≡ true = compared found here (a .row) (a .later) (a .from) ∙ c .if1 .taken in
     sym (seen-earlier (here .row .name) (here .earlier) ∙ ap (any (isNamed (here .row .name))) (t .passed) ∙ any-there (isNamed (here .row .name)) (a .earlier) (a .row) (t .between) named)
 
 loop-again : tie.Need-loop-again Inv-loop μ-loop
@@ -96,7 +81,7 @@ loop-again c here =
     let i = turn (c .before) in
     advance (i .before .loop .inv here) (omega (arith, i .loop-test .taken, here .from .within)) (c .before .before .before .before .name-end2 .ensures)
     (λ a.
-    let other : same (here .row .name) (a .row .name) ≡ false = compared (c .before) here (a .row) (a .later) (a .from) ∙ other-tag (c .before .compare .result) (c .match .keys2) in
+    let other : same (here .row .name) (a .row .name) ≡ false = compared (c .before) here (a .row) (a .later) (a .from) ∙ c .if1 .left in
     (towards-turn (here .from) (a .from) (i .loop-test .taken) (a .so-far .0), any-before (isNamed (here .row .name)) (a .earlier) (a .row) (a .so-far .1) other))
 
 returns-2 : tie.Need-returns-2 Inv-loop μ-loop
@@ -126,7 +111,6 @@ seen-earlier-spec =
     (λ c. omega (arith, ends-there (c .before)))
     (λ c. omega (arith, ends-there (c .before)))
     (λ c κs. search needs)
-    (λ c. search needs)
     returns
     (λ c. omega (arith, further (c .before .before .before .before)))
     (λ c. omega (arith, further (c .before .before .before .before)))
