@@ -216,7 +216,7 @@ pub fn conservation_status(snapshot: &[u8]) -> Result<(), Refusal> {
 
 fn answered<T>(room: &mut [u8], frame: &[u8], output: &mut [u8], done: impl FnOnce(&mut Values) -> T) -> Result<T, Refusal> {
     let written = interface::answer(room, frame, output);
-    answer::read(&output[..written]).map(|mut values| done(&mut values))
+    answer::read(output.get(..written).unwrap_or_default()).map(|mut values| done(&mut values))
 }
 
 fn certificate(values: &mut Values) -> Certificate {
