@@ -14,7 +14,7 @@ const CHANGED_PLACES: [&str; 2] = ["BA", "KL"];
 /// The partition that moves. It has no limits: those are no part of a snapshot, and a new owner would have to set them again.
 const MOVES: usize = 2;
 
-#[derive(Clone)]
+#[derive(Clone, Debug, PartialEq)]
 struct Message {
     airline: String,
     asked: String,
@@ -106,7 +106,9 @@ pub fn run() -> Result<Vec<SideBySide>, Refusal> {
     before.iter().for_each(|m| workers[owner(m)].take(m));
     let moved = std::mem::replace(&mut workers[MOVES], Worker::new()?).hand_over()?;
     workers[MOVES] = moved;
-    change_places(&after).iter().for_each(|m| workers[owner(m)].take(m));
+    let changed = change_places(&after);
+    assert_ne!(changed, after, "two airlines' messages come in another order");
+    changed.iter().for_each(|m| workers[owner(m)].take(m));
 
     let mut handed_over = Vec::new();
     for worker in &mut workers {
