@@ -4,16 +4,16 @@ use mathlib.Core.Logic.{_⊎_, inl, inr}
 use mathlib.Core.Bool.{and-false}
 use mathlib.Core.List.{List, [], _∷_, _++_, append-assoc, append-nil}
 use mathlib.Core.Option.{Option, none, some}
-use Prim.Native.Nat.{ℕ, suc, _+_, _*_, _≤_, _<_}
+use Prim.Native.Nat.{ℕ, zero, suc, _+_, _-_, _*_, _≤_, _<_}
 use native.Mathlib.Numerals.{add-one}
 use native.Mathlib.Omega.{arith}
 use borrow.Author.Tests.{lt-ltb, le-ltb}
 use lib.Dec.{ltb}
-use lib.ListN.{length, getD, take, drop, set, take-append-drop, drop-of-length-le}
-use lib.Seq.{drop-cons, drop-drop, take-suc-set, drop-set-lt, length-take-le}
+use lib.ListN.{length, getD, take, drop, set, take-append-drop}
+use lib.Seq.{drop-cons, drop-drop, take-add, take-all, take-suc-set, drop-set-lt, length-take-le}
 use Rattle.rules.specs.Frames.{digitOf, byteBefore, bytesOfLine}
 use Rattle.digits.specs.declared.Decoded.the-variants.{Bytes, BadFrame}
-use Rattle.digits.specs.Decoding.{Decodes}
+use Rattle.digits.specs.Decoding.{Decodes, FrontDecoded}
 
 -- bytes before those of the rest, if that has any
 abbrev joined : List ℕ → Option (List ℕ) → Option (List ℕ)
@@ -33,67 +33,111 @@ module _ (high low : ℕ) where
   right-pair none h l = refl
   right-pair (some bs) h l = rw (lt-ltb high 16 h, lt-ltb low 16 l)
 
-  wrong-pair : (rest : Option (List ℕ)) → (15 < high) ⊎ (15 < low) → byteBefore high low rest ≡ none
+  pub wrong-pair : (rest : Option (List ℕ)) → (15 < high) ⊎ (15 < low) → byteBefore high low rest ≡ none
   wrong-pair none w = refl
   wrong-pair (some bs) (inl h) = rw (le-ltb high 16 h)
   wrong-pair (some bs) (inr l) = rw (le-ltb low 16 l, and-false (ltb high 16))
 
--- what the characters from a place on come to
-module _ (line : List ℕ) (at : ℕ) where
-  abbrev pub Next : ℕ → ℕ → Type 0
-  Next high low = bytesOfLine (drop at line) ≡ byteBefore high low (bytesOfLine (drop (at + 2) line))
+-- the pair of characters at a place, and their digits
+pub record Pair (line : List ℕ) (at high low : ℕ) : Type 0 where
+  pub is-high : high ≡ digitOf (getD line at 0)
+  pub is-low : low ≡ digitOf (getD line (at + 1) 0)
+  pub inside : at + 1 < length line
 
-  pub next : (high low : ℕ) → high ≡ digitOf (getD line at 0) → low ≡ digitOf (getD line (at + 1) 0) → at + 1 < length line → Next high low
+one-more : (line : List ℕ) (at : ℕ) → at < length line → bytesOfLine (take 1 (drop at line)) ≡ none
+unfolding bytesOfLine
+one-more line at h = rw (drop-cons line at 0 h)
+
+module _ {line : List ℕ} {at high low : ℕ} (p : Pair line at high low) where
+  -- the pair before other characters
+  abbrev before-others : List ℕ → List ℕ
+  before-others later = getD line at 0 ∷ getD line (at + 1) 0 ∷ later
+
+  passed : (later : List ℕ) → take (at + 2) line ++ later ≡ take at line ++ before-others later
+  passed later =
+      let two : at + 1 ≡ suc at = omega arith in
+      ap (λ front. front ++ later) (take-add at 2 line)
+      ∙ append-assoc (take at line) (take 2 (drop at line)) later
+      ∙ ap (λ xs. take at line ++ (take 2 xs ++ later)) (drop-cons line at 0 (omega (arith, p .inside)))
+      ∙ ap (λ xs. take at line ++ (take 2 (getD line at 0 ∷ xs) ++ later)) (drop-cons line (suc at) 0 (omega (arith, p .inside)))
+      ∙ ap (λ n. take at line ++ (getD line at 0 ∷ getD line n 0 ∷ later)) (sym two)
+
+  pair-bytes : (later : List ℕ) → bytesOfLine (before-others later) ≡ byteBefore high low (bytesOfLine later)
   unfolding bytesOfLine
-  next high low h l more =
-      let two : at + 2 ≡ suc (suc at) = omega arith in
-      rw (h, l, two, add-one, drop-cons line at 0 (omega arith), drop-cons line (suc at) 0 (omega arith))
+  pair-bytes later = rw (p .is-high, p .is-low)
 
-  one-left : at < length line → length line ≤ at + 1 → bytesOfLine (drop at line) ≡ none
-  unfolding bytesOfLine
-  one-left h l = rw (drop-cons line at 0 h, drop-of-length-le line {i = suc at} (omega arith))
+  wrong-from : (15 < high) ⊎ (15 < low) → (more : ℕ) → 0 < more → bytesOfLine (take more (drop at line)) ≡ none
+  wrong-from w zero h = absurd (omega arith)
+  wrong-from w (suc zero) h = one-more line at (omega (arith, p .inside))
+  wrong-from w (suc (suc more)) h =
+      let two : suc at ≡ at + 1 = omega arith in
+      ap (λ xs. bytesOfLine (take (suc (suc more)) xs)) (drop-cons line at 0 (omega (arith, p .inside)))
+      ∙ ap (λ xs. bytesOfLine (getD line at 0 ∷ take (suc more) xs)) (drop-cons line (suc at) 0 (omega (arith, p .inside)))
+      ∙ ap (λ n. bytesOfLine (getD line at 0 ∷ getD line n 0 ∷ take more (drop (suc (suc at)) line))) two
+      ∙ pair-bytes (take more (drop (suc (suc at)) line))
+      ∙ wrong-pair high low (bytesOfLine (take more (drop (suc (suc at)) line))) w
 
-  none-left : length line ≤ at → bytesOfLine (drop at line) ≡ some []
-  unfolding bytesOfLine
-  none-left l = rw (drop-of-length-le line {i = at} l)
-
--- under way: the room's first i bytes are those of the line's first i pairs, and behind them it is as it was
+-- under way: the room's first i bytes are those of the line's first i pairs, whatever follows them, and behind them it is as it was
 pub record Underway (line before after : List ℕ) (i : ℕ) : Type 0 where
-  pub rest : bytesOfLine line ≡ joined (take i after) (bytesOfLine (drop (i + i) line))
+  pub front : (later : List ℕ) → bytesOfLine (take (i + i) line ++ later) ≡ joined (take i after) (bytesOfLine later)
   pub room : drop i after ≡ drop i before
 
 pub begun : (line room : List ℕ) → Underway line room room 0
-begun line room = record { rest = joined-none (bytesOfLine line); room = refl }
+begun line room = record { front = λ later. joined-none (bytesOfLine later); room = refl }
 
 module _ {line before after : List ℕ} {i : ℕ} (w : Underway line before after i) where
-  refused : bytesOfLine (drop (i + i) line) ≡ none → length after ≡ length before → Decodes (bytesOfLine line) before after BadFrame
-  refused e s = subst (λ bs. Decodes bs before after BadFrame) (sym (w .rest ∙ ap (joined (take i after)) e)) record { answer = refl; size = s }
+  -- where no character or no pair behind those passed makes a byte, they are all that does
+  stopped : i + i ≤ length line → i ≤ length after → ((more : ℕ) → 0 < more → i + i + more ≤ length line → bytesOfLine (take more (drop (i + i) line)) ≡ none)
+      → FrontDecoded line before after i
+  unfolding bytesOfLine
+  stopped h k further = record {
+    within = h;
+    fits = k;
+    bytes = ap bytesOfLine (sym (append-nil (take (i + i) line))) ∙ w .front [] ∙ ap some (append-nil (take i after));
+    room = w .room;
+    no-frame = λ end behind inside.
+        let more = end - (i + i) in
+        let end-is : end ≡ i + i + more = omega arith in
+        ap (λ n. bytesOfLine (take n line)) end-is
+        ∙ ap bytesOfLine (take-add (i + i) more line)
+        ∙ w .front (take more (drop (i + i) line))
+        ∙ ap (joined (take i after)) (further more (omega arith) (omega arith));
+  }
 
-  module _ {high low : ℕ} (n : Next line (i + i) high low) where
+  module _ {high low : ℕ} (p : Pair line (i + i) high low) where
     pub turn : (byte : ℕ) → byte ≡ high * 16 + low → high < 16 → low < 16 → i < length after → Underway line before (set after i byte) (i + 1)
     turn byte e h l k =
         let two : i + 1 + (i + 1) ≡ i + i + 2 = omega arith in
-        let further = bytesOfLine (drop (i + i + 2) line) in
         record {
-          rest = w .rest
-              ∙ ap (joined (take i after)) (n ∙ right-pair high low further h l)
-              ∙ joined-twice (take i after) ((high * 16 + low) ∷ []) further
-              ∙ rw (two, add-one, take-suc-set after i byte k, e);
+          front = λ later. ap (λ n. bytesOfLine (take n line ++ later)) two
+              ∙ ap bytesOfLine (passed p later)
+              ∙ w .front (before-others p later)
+              ∙ ap (joined (take i after)) (pair-bytes p later ∙ right-pair high low (bytesOfLine later) h l)
+              ∙ joined-twice (take i after) ((high * 16 + low) ∷ []) (bytesOfLine later)
+              ∙ rw (add-one, take-suc-set after i byte k, e);
           room = drop-set-lt (i + 1) after i byte (omega arith) ∙ sym (drop-drop 1 i after) ∙ ap (drop 1) (w .room) ∙ drop-drop 1 i before;
         }
 
-    pub wrong : (15 < high) ⊎ (15 < low) → length after ≡ length before → Decodes (bytesOfLine line) before after BadFrame
-    wrong k = refused (n ∙ wrong-pair high low (bytesOfLine (drop (i + i + 2) line)) k)
+    pub wrong : (15 < high) ⊎ (15 < low) → i ≤ length after → FrontDecoded line before after i
+    wrong k fits = stopped (omega (arith, p .inside)) fits (λ more h _. wrong-from p k more h)
 
-  pub odd : i + i < length line → length line ≤ i + i + 1 → length after ≡ length before → Decodes (bytesOfLine line) before after BadFrame
-  odd h l = refused (one-left line (i + i) h l)
+  -- no pair is left
+  pub finished : i + i ≤ length line → length line ≤ i + i + 1 → i ≤ length after → FrontDecoded line before after i
+  finished h l k = stopped h k (λ more some-more inside.
+      let one : more ≡ 1 = omega arith in
+      ap (λ n. bytesOfLine (take n (drop (i + i) line))) one ∙ one-more line (i + i) (omega arith))
 
-  pub finished : length line ≤ i + i → i ≤ length after → Decodes (bytesOfLine line) before after (Bytes i)
-  finished h k =
-      let size : length (take i after) ≡ i = length-take-le i after k in
-      let bytes : bytesOfLine line ≡ some (take i after) =
-      w .rest ∙ ap (joined (take i after)) (none-left line (i + i) h) ∙ ap some (append-nil (take i after)) in
-      subst (λ bs. Decodes bs before after (Bytes i)) (sym bytes) record {
-        answer = ap Bytes (sym size);
-        room = sym (take-append-drop i after) ∙ ap (λ bs. take i after ++ bs) (w .room ∙ ap (λ n. drop n before) (sym size));
+-- ── the line ───────────────────────────────────────────────────────────────────────────────────
+
+module _ {line before after : List ℕ} {size : ℕ} (f : FrontDecoded line before after size) where
+  pub refused : size + size < length line → length after ≡ length before → Decodes (bytesOfLine line) before after BadFrame
+  refused h s = subst (λ bs. Decodes bs before after BadFrame) (sym (ap bytesOfLine (sym (take-all (length line) line (omega arith))) ∙ f .no-frame (length line) h (omega arith))) record { answer = refl; size = s }
+
+  pub whole : length line ≤ size + size → Decodes (bytesOfLine line) before after (Bytes size)
+  whole h =
+      let long : length (take size after) ≡ size = length-take-le size after (f .fits) in
+      let bytes : bytesOfLine line ≡ some (take size after) = ap bytesOfLine (sym (take-all (size + size) line h)) ∙ f .bytes in
+      subst (λ bs. Decodes bs before after (Bytes size)) (sym bytes) record {
+        answer = ap Bytes (sym long);
+        room = sym (take-append-drop size after) ∙ ap (λ bs. take size after ++ bs) (f .room ∙ ap (λ n. drop n before) (sym long));
       }

@@ -5,7 +5,7 @@ ghost use Prim.Native.Nat.{_*_, _+_, _≤_, _<_};
 ghost use lib.ListN.{length, take, drop};
 ghost use Rattle.rules.specs.Frames.{digitOf, bytesOfLine, characterOf, lineOfBytes};
 ghost use Rattle.digits.specs.Tables.{Gives};
-ghost use Rattle.digits.specs.Decoding.{Decodes};
+ghost use Rattle.digits.specs.Decoding.{Decodes, FrontDecoded};
 
 // "a table of 256 entries gives each byte's digit, or 16 for none"
 const DIGIT: [u8; 256] = [
@@ -309,10 +309,10 @@ fn join(high: u8, low: u8) -> u8
     high << 4 | low
 }
 
-// "odd, .. or any character but 0-9 and a-f: 23." One pass; the bytes stand at the front of the lent room.
-pub fn bytes_of_line(line: &[u8], bytes: &mut [u8]) -> Decoded
+// "One pass": the pairs of digits at the line's front, up to the first pair that is none. The bytes stand at the front of the lent room.
+pub fn front_bytes(line: &[u8], bytes: &mut [u8]) -> usize
     requires { ⌜ length (now line) ≤ 2 * length (now bytes) ⌝ }
-    ensures { λ r. ⌜ Decodes (bytesOfLine (now (line .entry))) (now (bytes .entry)) (now (bytes .exit)) r ⌝ }
+    ensures { λ r. ⌜ FrontDecoded (now (line .entry)) (now (bytes .entry)) (now (bytes .exit)) r ⌝ }
 {
     let table = DIGIT;
     let pairs = line.len() / 2;
@@ -322,15 +322,24 @@ pub fn bytes_of_line(line: &[u8], bytes: &mut [u8]) -> Decoded
         let high = digit(&table, line[at]);
         let low = digit(&table, line[at + 1]);
         if 15 < high || 15 < low {
-            return Decoded::BadFrame;
+            return i;
         }
         bytes[i] = join(high, low);
         i += 1;
     }
-    if i + i < line.len() {
+    i
+}
+
+// "odd, .. or any character but 0-9 and a-f: 23."
+pub fn bytes_of_line(line: &[u8], bytes: &mut [u8]) -> Decoded
+    requires { ⌜ length (now line) ≤ 2 * length (now bytes) ⌝ }
+    ensures { λ r. ⌜ Decodes (bytesOfLine (now (line .entry))) (now (bytes .entry)) (now (bytes .exit)) r ⌝ }
+{
+    let size = front_bytes(line, bytes);
+    if size + size < line.len() {
         return Decoded::BadFrame;
     }
-    Decoded::Bytes(i)
+    Decoded::Bytes(size)
 }
 
 fn character(table: &[u8; 16], digit: u8) -> u8

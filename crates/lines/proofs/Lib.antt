@@ -1,5 +1,6 @@
 pub mod AnswerLines
 pub mod Decoded
+pub mod FirstLine
 pub mod LineFound
 pub mod SameAnswers
 pub mod StaysKnown

@@ -5,11 +5,10 @@ use mathlib.Core.List.{List, [], _∷_, _++_}
 use Prim.Native.Nat.{ℕ, suc, _+_, _-_, _≤_, _<_}
 use native.Mathlib.Omega.{arith}
 use lib.ListN.{length, getD, take, drop, length-drop, take-append-drop}
-use lib.Seq.{take-suc, take-all, getD-drop, drop-drop, drop-cons}
+use lib.Seq.{take-suc, take-all, getD-drop, drop-cons}
 use Rattle.rules.specs.Lists.{All}
 use Rattle.rules.specs.Frames.{lineFeed}
-use Rattle.records.specs.Rows.{row}
-use Rattle.lines.specs.Batching.{IsLine}
+use Rattle.lines.specs.Batching.{IsLine, FirstLine}
 
 pub all-end : {A : Type 0} (P : A → Type 0) (xs : List A) (x : A) → All P xs → P x → All P (xs ++ (x ∷ []))
 all-end P [] x h p = (p, tt)
@@ -33,17 +32,11 @@ to-the-end input from at h line = subst IsLine (take-all (at - from) (drop from 
 
 -- ── the line and its line feed ────────────────────────────────────────────────────────────────
 
--- a line of the input
-abbrev pub lineAt : List ℕ → (from end : ℕ) → List ℕ
-lineAt input from end = row (end - from) from input
+module _ (input : List ℕ) {end : ℕ} (f : FirstLine input end) where
+  pub feed-behind : take (end + 1) input ≡ take end input ++ (lineFeed ∷ [])
+  feed-behind =
+      let next : end + 1 ≡ suc end = omega arith in
+      ap (λ n. take n input) next ∙ take-suc input end 0 (f .inside) ∙ ap (λ c. take end input ++ (c ∷ [])) (f .feed)
 
-pub feed-behind : (input : List ℕ) (from end : ℕ) → from ≤ end → end < length input → getD input end 0 ≡ lineFeed → take (suc (end - from)) (drop from input) ≡ lineAt input from end ++ (lineFeed ∷ [])
-feed-behind input from end h l e =
-    let here : getD (drop from input) (end - from) 0 ≡ lineFeed = getD-drop from input (end - from) 0 ∙ ap (λ k. getD input k 0) (omega arith) ∙ e in
-    take-suc (drop from input) (end - from) 0 (omega (arith, length-drop from input)) ∙ ap (λ c. lineAt input from end ++ (c ∷ [])) here
-
-pub line-stands : (input : List ℕ) (from end : ℕ) → from ≤ end → end < length input → getD input end 0 ≡ lineFeed → drop from input ≡ lineAt input from end ++ (lineFeed ∷ drop (suc end) input)
-line-stands input from end h l e =
-    let here : from + (end - from) ≡ end = omega arith in
-    sym (take-append-drop (end - from) (drop from input))
-    ∙ ap (λ later. lineAt input from end ++ later) (drop-drop (end - from) from input ∙ ap (λ n. drop n input) here ∙ drop-cons input end 0 l ∙ ap (λ c. c ∷ drop (suc end) input) e)
+  pub line-stands : input ≡ take end input ++ (lineFeed ∷ drop (suc end) input)
+  line-stands = sym (take-append-drop end input) ∙ ap (λ later. take end input ++ later) (drop-cons input end 0 (f .inside) ∙ ap (λ c. c ∷ drop (suc end) input) (f .feed))

@@ -1,9 +1,9 @@
 -- A stretch of lines: a line answered behind others, and why a batch ends.
 use mathlib.Core.Path.{_≡_, refl, sym, subst, ap, _∙_}
-use mathlib.Core.Logic.{_⊎_, inl, inr}
+use mathlib.Core.Logic.{_⊎_, inl}
 use mathlib.Core.List.{List, [], _∷_, _++_, append-assoc}
 use mathlib.Core.Option.{Option}
-use Prim.Native.Nat.{ℕ, suc, _+_, _-_, _≤_}
+use Prim.Native.Nat.{ℕ, _+_, _-_, _≤_}
 use native.Mathlib.Omega.{arith}
 use borrow.Rule.Slice.PartMut.{put-same}
 use lib.ListN.{length, take, drop, length-append, length-drop, drop-of-length-le}
@@ -15,11 +15,10 @@ use Rattle.rules.proofs.EveryLine.{lentAfter, answers-append}
 use Rattle.records.specs.Rows.{row, put}
 use Rattle.row_writer.proofs.Appending.{two-halves}
 use Rattle.frames.specs.Answering.{IsLent}
-use Rattle.lines.specs.Batching.{lineRoom, IsLine, FirstFeed, withFeeds, AnswersLine, LineAnswered, HadRoom, NextTooLong, Batches}
-use Rattle.lines.proofs.LineFound.{all-end, lineAt, feed-behind, line-stands}
+use Rattle.lines.specs.Batching.{lineRoom, IsLine, FirstLine, withFeeds, AnswersLine, HadRoom, NextTooLong, NextAnswered, Batches}
+use Rattle.lines.proofs.LineFound.{all-end, feed-behind}
 use Rattle.lines.proofs.StaysKnown.{unsound-after, Promise}
-use Rattle.lines.specs.declared.LineAnswer.the-variants as answered
-use Rattle.lines.specs.declared.LineEnd.the-variants as found
+use Rattle.lines.specs.declared.Next.the-variants as next
 
 -- ── a line answered behind others ──────────────────────────────────────────────────────────────
 
@@ -70,38 +69,40 @@ room-end l left (other ∷ lines) line (h, k) enough =
     let later = answersToLines (answerToLine l other .lent) lines in
     (h, room-end (answerToLine l other .lent) (left - (length text + 1)) lines line k (omega (arith, length-append text (lineFeed ∷ later))))
 
--- the part of the output that is lent for a line's answer
+-- the part of the output that is lent for a line's answer, and of the input for its next line
 abbrev pub partFrom : ℕ → List ℕ → List ℕ
 partFrom from output = row (length output - from) from output
 
 pub part-length : (from : ℕ) (output : List ℕ) → length (partFrom from output) ≡ length output - from
 part-length from output = length-take-le (length output - from) (drop from output) (omega (arith, length-drop from output))
 
+pub rest-is : (from : ℕ) (input : List ℕ) → partFrom from input ≡ drop from input
+rest-is from input = take-all (length input - from) (drop from input) (omega (arith, length-drop from input))
+
 part-left : {l : Lent} {input before room output₀ output : List ℕ} {used written : ℕ} → Underway l input before room output₀ output used written → partFrom written output ≡ drop written output₀
 part-left {l} {output₀ = output₀} {output = output} {written = written} u =
-    take-all (length output - written) (drop written output) (omega (arith, length-drop written output)) ∙ ap (λ o. drop written o) (u .output) ∙ drop-at (answersToLines l (u .lines)) (drop written output₀) written (sym (u .are-written))
+    rest-is written output ∙ ap (λ o. drop written o) (u .output) ∙ drop-at (answersToLines l (u .lines)) (drop written output₀) written (sym (u .are-written))
 
 pub turn : {l : Lent} {input before room output₀ output : List ℕ} {used written : ℕ} (room-after part-after : List ℕ) (end size : ℕ)
-    → Underway l input before room output₀ output used written → FirstFeed input used (found.At end)
-    → Promise (operationOfLine (lineAt input used end)) room room-after (partFrom written output) part-after size
-    → Underway l input before room-after output₀ (put written (length output - written) output part-after) (end + 1) (written + size)
+    → Underway l input before room output₀ output used written → FirstLine (drop used input) end
+    → Promise (operationOfLine (take end (drop used input))) room room-after (partFrom written output) part-after size
+    → Underway l input before room-after output₀ (put written (length output - written) output part-after) (used + (end + 1)) (written + size)
 unfolding answerToLine
-turn {l} {input} {before} {room} {output₀} {output} {used} {written} room-after part-after end size u (from, within, feed, is-line) promise =
-    let line = lineAt input used end in
+turn {l} {input} {before} {room} {output₀} {output} {used} {written} room-after part-after end size u f promise =
+    let line = take end (drop used input) in
     let lent = lentAfter l (u .lines) in
     let answers = answersToLines l (u .lines) in
     let a = promise lent (u .lent) .1 in
     let text = answerLine (answerOr23 lent (operationOfLine line) .reply) in
-    let end-is : end + 1 ≡ used + suc (end - used) = omega arith in
-    let line-size : length line ≡ end - used = length-take-le (end - used) (drop used input) (omega (arith, length-drop used input)) in
+    let line-size : length line ≡ end = length-take-le end (drop used input) (omega (arith, f .inside)) in
     let rest = drop (written + size) output₀ in
     record {
       lines = u .lines ++ (line ∷ []);
-      are-lines = all-end IsLine (u .lines) line (u .are-lines) is-line;
+      are-lines = all-end IsLine (u .lines) line (u .are-lines) (f .is-line);
       input-used =
-          ap (λ n. take n input) end-is ∙ take-add used (suc (end - used)) input ∙ ap (λ front. front ++ take (suc (end - used)) (drop used input)) (u .input-used)
-          ∙ ap (λ more. withFeeds (u .lines) ++ more) (feed-behind input used end from within feed) ∙ sym (feeds-end (u .lines) line);
-      are-used = omega (arith, feeds-length (u .lines) line, line-size, u .are-used, from);
+          take-add used (end + 1) input ∙ ap (λ front. front ++ take (end + 1) (drop used input)) (u .input-used)
+          ∙ ap (λ more. withFeeds (u .lines) ++ more) (feed-behind (drop used input) f) ∙ sym (feeds-end (u .lines) line);
+      are-used = omega (arith, feeds-length (u .lines) line, line-size, u .are-used);
       are-written = omega (arith, answers-length l (u .lines) line, u .are-written, a .size);
       output =
           ap (λ whole. put written (length whole - written) whole part-after) (u .output) ∙ two-halves written output₀ answers part-after (sym (u .are-written))
@@ -139,20 +140,15 @@ pub at-the-end : {l : Lent} {input before after output₀ output : List ℕ} {us
     → Batches l input before after output₀ output (record { used = used; written = written })
 at-the-end {input = input} u h = stop u (inl (subst IsLine (sym (drop-of-length-le input h)) tt))
 
-pub too-long : {l : Lent} {input before room output₀ output : List ℕ} {used written : ℕ} (room-after part-after : List ℕ) (end : ℕ)
-    → Underway l input before room output₀ output used written → FirstFeed input used (found.At end) → length output ≡ length output₀
-    → ((l : Lent) → IsLent room l → LineAnswered (operationOfLine (lineAt input used end)) l room room-after (partFrom written output) part-after answered.OutputTooShort)
+pub stopped : {l : Lent} {input before room output₀ output : List ℕ} {used written : ℕ} (room-after part-after : List ℕ)
+    → Underway l input before room output₀ output used written → length output ≡ length output₀
+    → ((l : Lent) → IsLent room l → NextAnswered l (drop used input) room room-after (partFrom written output) part-after next.Stopped)
     → Batches l input before room-after output₀ (put written (length output - written) output part-after) (record { used = used; written = written })
-too-long {l} {input} {before} {room} {output₀} {output} {used} {written} room-after part-after end u (from, within, feed, is-line) same promise =
-    let (short, room-same, part-same) = promise (lentAfter l (u .lines)) (u .lent) in
+stopped {l} {input} {before} {room} {output₀} {output} {used} {written} room-after part-after u same promise =
+    let (room-same, part-same, why) = promise (lentAfter l (u .lines)) (u .lent) in
     let k = length output - written in
     let unchanged : put written k output part-after ≡ output = ap (λ part. put written k output part) part-same ∙ put-same written k output in
-    let why : NextTooLong (drop used input) (length output₀ - written) = record {
-      line = lineAt input used end;
-      later = drop (suc end) input;
-      is-line = is-line;
-      stands = line-stands input used end from within feed;
-      short = omega (arith, short, part-length written output, same);
-    } in
+    let left : length (partFrom written output) ≡ length output₀ - written = part-length written output ∙ ap (λ n. n - written) same in
     subst (λ m. Batches l input before m output₀ (put written k output part-after) (record { used = used; written = written })) (sym room-same)
-    (subst (λ o. Batches l input before room output₀ o (record { used = used; written = written })) (sym unchanged) (stop u (inr why)))
+    (subst (λ o. Batches l input before room output₀ o (record { used = used; written = written })) (sym unchanged)
+    (stop u (subst (λ n. IsLine (drop used input) ⊎ NextTooLong (drop used input) n) left why)))

@@ -14,6 +14,8 @@ use Rattle.lines.specs.declared.LineAnswer.{LineAnswer}
 use Rattle.lines.specs.declared.LineAnswer.the-variants as answer
 use Rattle.lines.specs.declared.LineEnd.{LineEnd}
 use Rattle.lines.specs.declared.LineEnd.the-variants as end
+use Rattle.lines.specs.declared.Next.{Next}
+use Rattle.lines.specs.declared.Next.the-variants as next
 use Rattle.lines.specs.declared.Progress.{Progress}
 
 -- the room that the longest answer line to an operation takes: two characters a byte, and the line feed
@@ -59,6 +61,28 @@ pub record NextTooLong (rest : List ℕ) (left : ℕ) : Type 0 where
   pub is-line : IsLine line
   pub stands : rest ≡ line ++ (lineFeed ∷ later)
   pub short : left < lineRoom (operationOfLine line)
+
+-- an answer to the line that ends there, or none
+abbrev pub nextOf : ℕ → LineAnswer → Next
+nextOf end (answer.Written size) = next.Answered end size
+nextOf end answer.OutputTooShort = next.Stopped
+
+-- the input's first line ends there
+pub record FirstLine (input : List ℕ) (end : ℕ) : Type 0 where
+  pub inside : end < length input
+  pub feed : getD input end 0 ≡ lineFeed
+  pub is-line : IsLine (take end input)
+
+abbrev pub NextFound : List ℕ → Next → Type 0
+NextFound input (next.Answered end size) = FirstLine input end
+NextFound input next.Stopped = Unit {0}
+
+-- where the first line is not answered, nothing changes
+abbrev pub NextAnswered : Lent → (input before after output-before output-after : List ℕ) → Next → Type 0
+NextAnswered l input before after output-before output-after (next.Answered end size) =
+    LineAnswered (operationOfLine (take end input)) l before after output-before output-after (answer.Written size)
+NextAnswered l input before after output-before output-after next.Stopped =
+    (after ≡ before) × (output-after ≡ output-before) × (IsLine input ⊎ NextTooLong input (length output-before))
 
 -- the lines answered are those at the front of the input; their answers stand at the front of the output
 pub record Batches (l : Lent) (input before after output-before output-after : List ℕ) (b : Progress) : Type 0 where

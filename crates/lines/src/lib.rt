@@ -8,7 +8,7 @@ ghost use lib.ListN.{length, take, drop};
 ghost use Rattle.rules.specs.AnswerNumbers.{Lent};
 ghost use Rattle.rules.specs.Frames.{lineFeed, lineOfBytes, operationOf, operationOfLine};
 ghost use Rattle.frames.specs.Answering.{IsLent, Known};
-ghost use Rattle.lines.specs.Batching.{LineAnswered, FirstFeed, Batches};
+ghost use Rattle.lines.specs.Batching.{LineAnswered, FirstFeed, nextOf, NextFound, NextAnswered, Batches};
 
 // The longest line is of 29,238 characters, and so of 14,619 bytes.
 const LONGEST_LINE: usize = 29238;
@@ -22,6 +22,12 @@ pub enum LineAnswer {
 pub enum LineEnd {
     At(usize),
     Missing,
+}
+
+// What comes of an input's first line: where its line feed stands and how many characters of its answer line were written, or that none is answered.
+pub enum Next {
+    Answered { end: usize, size: usize },
+    Stopped,
 }
 
 // How much of the input was answered, and how much output was written.
@@ -110,6 +116,49 @@ pub fn line_end(input: &[u8], from: usize) -> LineEnd
     LineEnd::Missing
 }
 
+// No longer line is decoded.
+fn front_limit(size: usize) -> usize
+    ensures { λ r. ⌜ (r ≤ size) × (r ≤ 29238) × ((end : ℕ) → end ≤ size → end ≤ 29238 → end ≤ r) ⌝ }
+{
+    if LONGEST_LINE < size {
+        return LONGEST_LINE;
+    }
+    size
+}
+
+fn next_at(end: usize, answer: LineAnswer) -> Next
+    ensures { λ r. ⌜ r ≡ nextOf end answer ⌝ }
+{
+    match answer {
+        LineAnswer::Written(size) => Next::Answered { end, size },
+        LineAnswer::OutputTooShort => Next::Stopped,
+    }
+}
+
+// The input's first line, each character read once: the line feed is looked for behind the digits, and a line that goes on behind them is no frame.
+fn answer_next(
+    room: &mut [u8],
+    known: bool,
+    input: &[u8],
+    work: &mut [u8],
+    output: &mut [u8],
+) -> Next
+    requires { ⌜ Known known (now room) × (14619 ≤ length (now work)) ⌝ }
+    ensures found { λ r. ⌜ NextFound (now (input .entry)) r ⌝ }
+    ensures answered { λ r. ⌜ ((l : Lent) → IsLent (now (room .entry)) l → NextAnswered l (now (input .entry)) (now (room .entry)) (now (room .exit)) (now (output .entry)) (now (output .exit)) r) ⌝ }
+{
+    let limit = front_limit(input.len());
+    let size = digits::front_bytes(&input[..limit], work);
+    let from = size + size;
+    let LineEnd::At(end) = line_end(input, from) else {
+        return Next::Stopped;
+    };
+    if from < end {
+        return next_at(end, answer_no_frame(output));
+    }
+    next_at(end, answer_frame(room, known, &work[..size], output))
+}
+
 // Line after line, each whole, until none is left or the next one's answer might not fit.
 fn answer_lines(
     room: &mut [u8],
@@ -125,19 +174,16 @@ fn answer_lines(
     let mut used = 0;
     let mut written = 0;
     while used < input.len() {
-        let LineEnd::At(end) = line_end(input, used) else {
-            return Progress { used, written };
-        };
-        let LineAnswer::Written(size) = answer_line(
+        let Next::Answered { end, size } = answer_next(
             room,
             known,
-            &input[used..end],
+            &input[used..],
             work,
             &mut output[written..],
         ) else {
             return Progress { used, written };
         };
-        used = end + 1;
+        used += end + 1;
         written += size;
     }
     Progress { used, written }

@@ -1,81 +1,15 @@
--- `digits::bytes_of_line` meets its contract. The invariant: the pairs passed are decoded, and their bytes stand at the room's front.
-use mathlib.Core.Path.{_≡_, refl}
-use mathlib.Core.Logic.{inl, inr, ⊎-elim}
-use Prim.Native.Nat.{_+_, _-_, _≤_}
+-- `digits::bytes_of_line` meets its contract: the pairs at the front are the whole line, or it is no frame.
 use native.Mathlib.Omega.{arith}
 use borrow.Author.Needs.{needs}
-use borrow.Author.Tests.{ltb-true}
-use lib.ListN.{length, length-set}
-use Rattle.rules.specs.Frames.{digitOf}
-use Rattle.digits.specs.Tables.{Gives}
-use Rattle.digits.proofs.Tables.{gives}
-use Rattle.digits.proofs.Decoding.{Next, next, Underway, begun, turn, wrong, odd, finished}
+use Rattle.digits.proofs.Decoding.{refused, whole}
 use Rattle.digits.proofs.bytes_of_line.Statement.{statement}
 use Rattle.digits.proofs.bytes_of_line.Tie as tie
 
-abbrev Inv-loop : tie.InvT-loop
-Inv-loop line bytes₀ table pairs i₀ bytes i = (i ≤ pairs) × (length bytes ≡ length bytes₀) × Underway line bytes₀ bytes i × Gives digitOf 256 table
+returns : tie.Need-returns
+returns c = let call = c .before .before .before in refused (call .front-bytes .ensures) (omega arith) (search needs)
 
-abbrev μ-loop : tie.MeasureT-loop
-μ-loop line bytes₀ table pairs i₀ bytes i = pairs - i
-
--- `gives`: the code's 256 entries are computed here, once, to be those of `digitOf`
-loop-holds : tie.Need-loop-holds Inv-loop μ-loop
-loop-holds c = let a = c .before .before .args in (omega arith, refl, begun (a .line .now) (a .bytes .now), gives digitOf 256)
-
--- the pair of digits that a turn reads
-pair : (c : tie.After-digit2 Inv-loop μ-loop) → let d = c .before .before .before in let l = d .before .before .before .before in
-    Next (l .before .before .before .args .line .now) (l .loop .i + l .loop .i) (d .digit .result) (c .digit2 .result)
-pair c =
-    let d = c .before .before .before in
-    let l = d .before .before .before .before in
-    let at = l .loop .i + l .loop .i in
-    next (l .before .before .before .args .line .now) at (d .digit .result) (c .digit2 .result) (d .digit .ensures) (c .digit2 .ensures) (omega arith)
-
-returns : tie.Need-returns Inv-loop μ-loop
-returns c =
-    let e = c .before in
-    let l = e .before .before .before .before .before .before .before .loop in
-    wrong (l .inv .2) (pair e) (⊎-elim (λ h. inl (h .taken)) (λ k. inr (ltb-true 15 (e .digit2 .result) (k .1 .taken))) (c .if1 .came)) (l .inv .1)
-
-loop-again : tie.Need-loop-again Inv-loop μ-loop
-loop-again c =
-    let e = c .before .before .before in
-    let l = e .before .before .before .before .before .before .before .loop in (
-      omega arith,
-      simp length-set (l .inv .1),
-      turn (l .inv .2) (pair e) (c .join .result) (c .join .ensures) (search needs) (search needs) (omega arith),
-      l .inv .3,
-    )
-
-returns-2 : tie.Need-returns-2 Inv-loop μ-loop
-returns-2 c = let l = c .before .before .loop in odd (l .inv .2) (omega arith) (omega arith) (l .inv .1)
-
-returns-3 : tie.Need-returns-3 Inv-loop μ-loop
-returns-3 c = let l = c .before .before .loop in finished (l .inv .2) (omega arith) (omega arith)
+returns-2 : tie.Need-returns-2
+returns-2 c = let call = c .before .before .before in whole (call .front-bytes .ensures) (omega arith)
 
 pub bytes-of-line-spec : {M : Type 1} → statement M
-bytes-of-line-spec =
-    tie.close
-    (tie.spec
-    Inv-loop
-    μ-loop
-    loop-holds
-    (λ c. search needs)
-    (λ c. search needs)
-    (λ c κs. search needs)
-    (λ c. search needs)
-    (λ c. search needs)
-    (λ c κs. search needs)
-    (λ c. search needs)
-    returns
-    (λ c κs. search needs)
-    (λ c. search needs)
-    (λ c. search needs)
-    (λ c. search needs)
-    loop-again
-    (λ c. search needs)
-    (λ c. search needs)
-    returns-2
-    (λ c. search needs)
-    returns-3)
+bytes-of-line-spec = tie.close (tie.spec (λ c κs. search needs) (λ c. search needs) (λ c. search needs) returns (λ c. search needs) returns-2)

@@ -1,24 +1,21 @@
 -- `lines::answer_lines` meets its contract. The invariant: some lines are answered, and what is known of the memory still holds.
 use mathlib.Core.Path.{_≡_, refl, subst, _∙_}
-use mathlib.Core.Logic.{inl}
 use mathlib.Core.List.{List}
 use Prim.Native.Nat.{ℕ, _+_, _-_, _≤_}
 use native.Mathlib.Omega.{arith}
 use borrow.Author.Needs.{needs}
-use lib.ListN.{length}
+use lib.ListN.{length, take, drop, length-drop}
 use Rattle.rules.specs.AnswerNumbers.{Lent}
 use Rattle.rules.specs.Frames.{operationOfLine}
 use Rattle.records.specs.Rows.{put}
 use Rattle.records.proofs.Rows.{put-length}
 use Rattle.frames.specs.Answering.{IsLent, Known}
-use Rattle.lines.specs.Batching.{FirstFeed, LineAnswered}
-use Rattle.lines.specs.declared.LineAnswer.{LineAnswer}
-use Rattle.lines.specs.declared.LineAnswer.the-variants as answered
-use Rattle.lines.specs.declared.LineEnd.the-variants as found
+use Rattle.lines.specs.Batching.{FirstLine, NextFound, NextAnswered}
+use Rattle.lines.specs.declared.Next.{Next}
+use Rattle.lines.specs.declared.Next.the-variants as next
 use Rattle.lines.proofs.AnswerLines.{some-lent}
-use Rattle.lines.proofs.LineFound.{lineAt}
-use Rattle.lines.proofs.StaysKnown.{stays-known}
-use Rattle.lines.proofs.Stretch.{Underway, begun, partFrom, part-length, written-within, turn, stop, at-the-end, too-long}
+use Rattle.lines.proofs.StaysKnown.{Promise, stays-known}
+use Rattle.lines.proofs.Stretch.{Underway, begun, partFrom, part-length, rest-is, written-within, turn, stopped, at-the-end}
 use Rattle.lines.proofs.answer_lines.Statement.{statement}
 use Rattle.lines.proofs.answer_lines.Tie as tie
 
@@ -42,86 +39,90 @@ loop-holds c =
     let a = s .args in
     (omega arith, omega arith, refl, refl, refl, s .pre .0, λ l is. begun l (a .input .now) (a .room .now) (a .output .now) is)
 
--- ── a line found ───────────────────────────────────────────────────────────────────────────────
+-- ── the next line ──────────────────────────────────────────────────────────────────────────────
 
-abbrev turn-of : tie.After-known-told Inv-loop μ-loop → tie.At-loop Inv-loop μ-loop
-turn-of c = c .before .before .before .before .before
+module _ (c : tie.After-answer-next Inv-loop μ-loop) where
+  abbrev turn-of : tie.At-loop Inv-loop μ-loop
+  turn-of = c .before .before .before .before .before .before
 
-first-feed : (c : tie.After-known-told Inv-loop μ-loop) → FirstFeed (entry (turn-of c) .args .input .now) (turn-of c .loop .used) (found.At (c .before .end .given .0 .0))
-first-feed c = subst (FirstFeed (entry (turn-of c) .args .input .now) (turn-of c .loop .used)) (c .before .end .given .1) (c .before .before .before .line-end .ensures)
+  abbrev rest : List ℕ
+  rest = drop (turn-of .loop .used) (entry turn-of .args .input .now)
+
+  abbrev after : List ℕ
+  after = c .answer-next .last .0
+
+  abbrev part : List ℕ
+  part = partFrom (turn-of .loop .written) (turn-of .loop .output)
+
+  abbrev part-after : List ℕ
+  part-after = c .answer-next .last .1 .1 .1 .1 .0
+
+  part-kept : length part-after ≡ length part
+  part-kept = search needs
+
+  module _ (r : Next) (is : c .answer-next .result ≡ r) where
+    found : NextFound rest r
+    found = subst (λ input. NextFound input r) (rest-is (turn-of .loop .used) (entry turn-of .args .input .now)) (subst (NextFound _) is (c .answer-next .ensures .0))
+
+    promise : (l : Lent) → IsLent (turn-of .loop .room) l → NextAnswered l rest (turn-of .loop .room) after part part-after r
+    promise l lent =
+        subst (λ input. NextAnswered l input (turn-of .loop .room) after part part-after r) (rest-is (turn-of .loop .used) (entry turn-of .args .input .now))
+        (subst (NextAnswered l (partFrom (turn-of .loop .used) (entry turn-of .args .input .now)) (turn-of .loop .room) after part part-after) is (c .answer-next .ensures .1 l lent))
 
 returns : tie.Need-returns Inv-loop μ-loop
 returns c =
-    let t = c .before .before .before .before in (
-      λ l is. stop (t .loop .inv .6 l is) (inl (subst (FirstFeed (entry t .args .input .now) (t .loop .used)) (c .enum-told .given .1) (c .before .before .line-end .ensures))),
-      passed t,
-    )
-
--- ── its answer ─────────────────────────────────────────────────────────────────────────────────
-
-abbrev found-before : tie.After-answer-line Inv-loop μ-loop → tie.After-known-told Inv-loop μ-loop
-found-before c = c .before .before .before .before .before
-
-abbrev answered-line : (c : tie.After-answer-line Inv-loop μ-loop) → List ℕ
-answered-line c = let f = found-before c in lineAt (entry (turn-of f) .args .input .now) (turn-of f .loop .used) (f .before .end .given .0 .0)
-
-promise : (c : tie.After-answer-line Inv-loop μ-loop) (a : LineAnswer) → c .answer-line .result ≡ a →
-    let o = turn-of (found-before c) .loop in
-    (l : Lent) → IsLent (o .room) l
-    → LineAnswered (operationOfLine (answered-line c)) l (o .room) (c .answer-line .last .0) (partFrom (o .written) (o .output)) (c .answer-line .last .1 .1 .1 .1 .0) a
-promise c a e l is =
-    let o = turn-of (found-before c) .loop in
-    subst (LineAnswered (operationOfLine (answered-line c)) l (o .room) (c .answer-line .last .0) (partFrom (o .written) (o .output)) (c .answer-line .last .1 .1 .1 .1 .0))
-    e (c .answer-line .ensures l is)
-
-part-kept : (c : tie.After-answer-line Inv-loop μ-loop) → let o = turn-of (found-before c) .loop in length (c .answer-line .last .1 .1 .1 .1 .0) ≡ length (partFrom (o .written) (o .output))
-part-kept c = search needs
-
-returns-2 : tie.Need-returns-2 Inv-loop μ-loop
-returns-2 c =
     let a = c .before .before .before .before .before .before .before .before in
-    let f = found-before a in
-    let o = turn-of f .loop in (
-      λ l is. too-long (a .answer-line .last .0) (a .answer-line .last .1 .1 .1 .1 .0) (f .before .end .given .0 .0) (o .inv .6 l is) (first-feed f) (o .inv .2)
-          (promise a answered.OutputTooShort (c .enum-told2 .given .1)),
-      passed (turn-of f),
+    let o = turn-of a .loop in (
+      λ l is. stopped (after a) (part-after a) (o .inv .6 l is) (o .inv .2) (promise a next.Stopped (c .enum-told .given .1)),
+      passed (turn-of a),
     )
 
-abbrev answer-before : tie.After-known-told2 Inv-loop μ-loop → tie.After-answer-line Inv-loop μ-loop
-answer-before c = c .before .before .before .before .before .before .before .before .before
+-- ── answered ───────────────────────────────────────────────────────────────────────────────────
 
-within : (c : tie.After-known-told2 Inv-loop μ-loop) → let o = turn-of (found-before (answer-before c)) .loop in o .written + c .before .size .given .0 .0 ≤ length (o .output)
-within c =
-    let a = answer-before c in
-    let o = turn-of (found-before a) .loop in
-    let lent = some-lent (entry (turn-of (found-before a)) .args .known) (o .inv .5) in
-    let answers = promise a (answered.Written (c .before .size .given .0 .0)) (c .before .size .given .1) (lent .lent) (lent .is-lent) .1 in
-    omega (arith, written-within answers (part-kept a), part-length (o .written) (o .output), o .inv .1)
+module _ (c : tie.After-known-told Inv-loop μ-loop) where
+  abbrev answer : tie.After-answer-next Inv-loop μ-loop
+  answer = c .before .before .before .before .before .before .before .before .before
+
+  abbrev end : ℕ
+  end = c .before .end .given .0 .0
+
+  abbrev size : ℕ
+  size = c .before .end .given .0 .1 .0
+
+  first : FirstLine (rest answer) end
+  first = found answer (next.Answered end size) (c .before .end .given .1)
+
+  promised : Promise (operationOfLine (take end (rest answer))) (turn-of answer .loop .room) (after answer) (part answer) (part-after answer) size
+  promised = promise answer (next.Answered end size) (c .before .end .given .1)
+
+  used-within : turn-of answer .loop .used + (end + 1) ≤ length (entry (turn-of answer) .args .input .now)
+  used-within = let o = turn-of answer .loop in omega (arith, first .inside, length-drop (o .used) (entry (turn-of answer) .args .input .now), o .inv .0)
+
+  written-fits : turn-of answer .loop .written + size ≤ length (turn-of answer .loop .output)
+  written-fits =
+      let o = turn-of answer .loop in
+      let lent = some-lent (entry (turn-of answer) .args .known) (o .inv .5) in
+      omega (arith, written-within (promised (lent .lent) (lent .is-lent) .1) (part-kept answer), part-length (o .written) (o .output), o .inv .1)
 
 loop-again : tie.Need-loop-again Inv-loop μ-loop
 loop-again c =
-    let a = answer-before c in
-    let f = found-before a in
-    let o = turn-of f .loop in
-    let known = entry (turn-of f) .args .known in
-    let size = c .before .size .given .0 .0 in
-    let after = a .answer-line .last .0 in
-    let part-after = a .answer-line .last .1 .1 .1 .1 .0 in
+    let a = answer c in
+    let o = turn-of a .loop in
+    let known = entry (turn-of a) .args .known in
     let left = length (o .output) - o .written in
-    let kept : length (put (o .written) left (o .output) part-after) ≡ length (o .output) =
-    put-length (o .written) left (o .output) part-after (omega (arith, o .inv .1)) (part-kept a ∙ part-length (o .written) (o .output)) in
-    let promised = promise a (answered.Written size) (c .before .size .given .1) in (
-      omega (arith, first-feed f .1),
-      omega (arith, within c, kept),
+    let kept : length (put (o .written) left (o .output) (part-after a)) ≡ length (o .output) =
+    put-length (o .written) left (o .output) (part-after a) (omega (arith, o .inv .1)) (part-kept a ∙ part-length (o .written) (o .output)) in (
+      omega (arith, used-within c),
+      omega (arith, written-fits c, kept),
       kept ∙ o .inv .2,
       search needs,
       search needs,
-      stays-known known (operationOfLine (answered-line a)) (o .room) after (partFrom (o .written) (o .output)) part-after size (o .inv .5) promised,
-      λ l is. turn after part-after (f .before .end .given .0 .0) size (o .inv .6 l is) (first-feed f) promised,
+      stays-known known (operationOfLine (take (end c) (rest a))) (o .room) (after a) (part a) (part-after a) (size c) (o .inv .5) (promised c),
+      λ l is. turn (after a) (part-after a) (end c) (size c) (o .inv .6 l is) (first c) (promised c),
     )
 
-returns-3 : tie.Need-returns-3 Inv-loop μ-loop
-returns-3 c = (λ l is. at-the-end (c .before .loop .inv .6 l is) (c .loop-test .left), passed (c .before))
+returns-2 : tie.Need-returns-2 Inv-loop μ-loop
+returns-2 c = (λ l is. at-the-end (c .before .loop .inv .6 l is) (c .loop-test .left), passed (c .before))
 
 pub answer-lines-spec : {M : Type 1} → statement M
 answer-lines-spec =
@@ -130,6 +131,12 @@ answer-lines-spec =
     Inv-loop
     μ-loop
     loop-holds
+    (λ c. search needs)
+    (λ c. search needs)
+    (λ c. search needs)
+    (λ c. search needs)
+    (λ c. search needs)
+    (λ c. search needs)
     (λ c κs. search needs)
     (λ c. search needs)
     (λ c. search needs)
@@ -137,24 +144,12 @@ answer-lines-spec =
     (λ c. search needs)
     (λ c. search needs)
     returns
-    (λ c. omega (arith, first-feed (c .before) .0))
-    (λ c. omega (arith, first-feed (c .before) .0))
-    (λ c. omega (arith, first-feed (c .before) .1))
-    (λ c. search needs)
-    (λ c. search needs)
-    (λ c. search needs)
-    (λ c κs. search needs)
-    (λ c. search needs)
-    (λ c. search needs)
-    (λ c. search needs)
-    (λ c. search needs)
-    (λ c. search needs)
-    returns-2
-    (λ c. omega (arith, first-feed (found-before (answer-before c)) .1))
-    (λ c. omega (arith, within c))
-    (λ c. let f = found-before (answer-before c) in omega (arith, first-feed f .0, first-feed f .1))
+    (λ c. omega (arith, used-within c))
+    (λ c. omega (arith, used-within c))
+    (λ c. omega (arith, written-fits c))
+    (λ c. omega (arith, used-within c))
     loop-again
     (λ c. search needs)
     (λ c. search needs)
     (λ c. search needs)
-    returns-3)
+    returns-2)
