@@ -9,7 +9,7 @@ mod work;
 
 use work::{Size, Work};
 
-const ROUNDS: usize = 9;
+const ROUNDS: usize = 25;
 
 /// The best of the rounds, in nanoseconds for one operation, of each of several runners that take turns.
 fn best<const N: usize>(operations: usize, mut runners: [&mut dyn FnMut(); N]) -> [f64; N] {
