@@ -3,6 +3,12 @@ use borrow.Author.Needs.{needs}
 use Rattle.records.proofs.read_booking.Statement.{statement}
 use Rattle.records.proofs.read_booking.Tie as tie
 
+returns : tie.Need-returns
+returns c =
+    let amount = c .before .before in
+    let id = amount .before .before in
+    λ j. record { id = id .read8 .ensures j; amount = amount .read82 .ensures j; owner = c .read2 .ensures j }
+
 pub read-booking-spec : {M : Type 1} → statement M
 read-booking-spec =
     tie.close
@@ -19,4 +25,4 @@ read-booking-spec =
     (λ c. search needs)
     (λ c. search needs)
     (λ c κs. search needs)
-    (λ c. cc))
+    returns)

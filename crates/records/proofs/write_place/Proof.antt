@@ -1,4 +1,4 @@
--- `records::write_place` meets its contract: its numbers, one after the other, and the name's bytes fill the part.
+-- `records::write_place` meets its contract: its numbers, one after the other, and the name's bytes fill the part. The making of each smaller part gives its length.
 use mathlib.Core.Path.{_≡_, refl, ap, _∙_}
 use native.Mathlib.Omega.{arith}
 use Rattle.numbers.specs.LittleEndian.{littleBytes}
@@ -37,6 +37,26 @@ returns c =
     ∙ put-next 0 42 part front (omega (arith, s .pre)) (fields-length placeWidths (placeNumbers p) refl) 24 (p .name .bytes)
     ∙ put-all 66 part (placeBytes p) (s .pre)
 
+-- each store leaves the part as long as it was
+same-length : tie.Need-same-length
+same-length c =
+    let at-bytes = c .before in
+    let at-length = at-bytes .before .before .before .before in
+    let at-account = at-length .before .before .before .before in
+    let at-limit = at-account .before .before .before .before in
+    let at-committed = at-limit .before .before .before .before in
+    let at-reserved = at-committed .before .before .before .before in
+    let at-remaining = at-reserved .before .before .before .before in
+    let at-initial = at-remaining .before .before .before .before in
+    at-bytes .part8 .given .1
+    ∙ at-length .part7 .given .1
+    ∙ at-account .part6 .given .1
+    ∙ at-limit .part5 .given .1
+    ∙ at-committed .part4 .given .1
+    ∙ at-reserved .part3 .given .1
+    ∙ at-remaining .part2 .given .1
+    ∙ at-initial .part .given .1
+
 pub write-place-spec : {M : Type 1} → statement M
 write-place-spec =
     tie.close
@@ -44,34 +64,34 @@ write-place-spec =
     (λ c. search needs)
     (λ c. search needs)
     (λ c. search needs)
-    (λ c κs. search needs)
+    (λ c κs. c .write8-arg .given .2)
     (λ c. search needs)
     (λ c. search needs)
     (λ c. search needs)
-    (λ c κs. search needs)
+    (λ c κs. c .write8-arg2 .given .2)
     (λ c. search needs)
     (λ c. search needs)
     (λ c. search needs)
-    (λ c κs. search needs)
+    (λ c κs. c .write8-arg3 .given .2)
     (λ c. search needs)
     (λ c. search needs)
     (λ c. search needs)
-    (λ c κs. search needs)
+    (λ c κs. c .write8-arg4 .given .2)
     (λ c. search needs)
     (λ c. search needs)
     (λ c. search needs)
-    (λ c κs. search needs)
+    (λ c κs. c .write8-arg5 .given .2)
     (λ c. search needs)
     (λ c. search needs)
     (λ c. search needs)
-    (λ c κs. search needs)
+    (λ c κs. c .write1-arg .given .2)
     (λ c. search needs)
     (λ c. search needs)
     (λ c. search needs)
-    (λ c κs. search needs)
+    (λ c κs. c .write1-arg2 .given .2)
     (λ c. search needs)
     (λ c. search needs)
     (λ c. search needs)
-    (λ c κs. search needs)
-    (λ c. search needs)
+    (λ c κs. c .write-name-bytes-arg .given .2)
+    same-length
     returns)
