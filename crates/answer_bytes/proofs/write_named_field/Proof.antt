@@ -1,5 +1,6 @@
--- `answer_bytes::write_named_field` meets its contract: the field's byte and the word stand behind the name.
+-- `answer_bytes::write_named_field` meets its contract: the field's byte and the word stand behind the name. The making of a part gives its length.
 use mathlib.Core.Path.{_≡_, _∙_}
+use native.Mathlib.Omega.{arith}
 use lib.ListN.{length}
 use Rattle.answer_bytes.proofs.Parts.{byte-is, number-written, name-written, value-behind}
 use borrow.Author.Needs.{needs}
@@ -21,6 +22,15 @@ returns c v w is-field is-word =
     let field = value-behind named 1 _ v is-field (at-field .write12 .ensures ∙ byte-is (s .args .field)) in
     value-behind field 8 _ w is-word (at-word .write8 .ensures)
 
+-- each write leaves the output as long as it was
+same-length : tie.Need-same-length
+same-length c =
+    let word = c .before in
+    let field = word .before .before .before .before in
+    let name = field .before .before .before .before in
+    let number = name .before .before .before .before in
+    word .output4 .given .1 ∙ field .output3 .given .1 ∙ name .output2 .given .1 ∙ number .output .given .1
+
 pub write-named-field-spec : {M : Type 1} → statement M
 write-named-field-spec =
     tie.close
@@ -32,18 +42,18 @@ write-named-field-spec =
     (λ c. search needs)
     (λ c. search needs)
     (λ c. search needs)
-    (λ c κs. search needs)
+    (λ c κs. c .write1-arg .given .2)
     (λ c. search needs)
     (λ c. search needs)
     (λ c. search needs)
-    (λ c κs. search needs)
+    (λ c κs. omega (arith, c .write-name-arg .given .2, c .before .before .before .before .before .before .before .pre .1))
     (λ c. search needs)
     (λ c. search needs)
     (λ c. search needs)
-    (λ c κs. search needs)
+    (λ c κs. omega (arith, c .write1-arg2 .given .2))
     (λ c. search needs)
     (λ c. search needs)
     (λ c. search needs)
-    (λ c κs. search needs)
-    (λ c. search needs)
+    (λ c κs. omega (arith, c .write8-arg .given .2))
+    same-length
     returns)

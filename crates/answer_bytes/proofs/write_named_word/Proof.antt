@@ -1,5 +1,6 @@
--- `answer_bytes::write_named_word` meets its contract: the word stands behind the name.
+-- `answer_bytes::write_named_word` meets its contract: the word stands behind the name. The making of a part gives its length.
 use mathlib.Core.Path.{_≡_}
+use native.Mathlib.Omega.{arith}
 use lib.ListN.{length}
 use Rattle.answer_bytes.proofs.Parts.{number-written, name-written, value-behind}
 use borrow.Author.Needs.{needs}
@@ -29,14 +30,14 @@ write-named-word-spec =
     (λ c. search needs)
     (λ c. search needs)
     (λ c. search needs)
-    (λ c κs. search needs)
+    (λ c κs. c .write1-arg .given .2)
     (λ c. search needs)
     (λ c. search needs)
     (λ c. search needs)
-    (λ c κs. search needs)
+    (λ c κs. omega (arith, c .write-name-arg .given .2, c .before .before .before .before .before .before .before .pre .1))
     (λ c. search needs)
     (λ c. search needs)
     (λ c. search needs)
-    (λ c κs. search needs)
+    (λ c κs. omega (arith, c .write8-arg .given .2))
     (λ c. search needs)
     returns)

@@ -1,4 +1,4 @@
--- `answer_bytes::write_three_words` meets its contract: each word stands behind what was written before it.
+-- `answer_bytes::write_three_words` meets its contract: each word stands behind what was written before it. The making of a part gives its length.
 use Rattle.answer_bytes.proofs.Parts.{number-written, value-behind}
 use borrow.Author.Needs.{needs}
 use Rattle.answer_bytes.proofs.write_three_words.Statement.{statement}
@@ -21,18 +21,18 @@ write-three-words-spec =
     (λ c. search needs)
     (λ c. search needs)
     (λ c. search needs)
-    (λ c κs. search needs)
+    (λ c κs. c .write1-arg .given .2)
     (λ c. search needs)
     (λ c. search needs)
     (λ c. search needs)
-    (λ c κs. search needs)
+    (λ c κs. c .write8-arg .given .2)
     (λ c. search needs)
     (λ c. search needs)
     (λ c. search needs)
-    (λ c κs. search needs)
+    (λ c κs. c .write8-arg2 .given .2)
     (λ c. search needs)
     (λ c. search needs)
     (λ c. search needs)
-    (λ c κs. search needs)
+    (λ c κs. c .write8-arg3 .given .2)
     (λ c. search needs)
     returns)
