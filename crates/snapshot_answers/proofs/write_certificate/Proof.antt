@@ -1,5 +1,5 @@
--- `snapshot_answers::write_certificate` meets its contract: each part stands behind what was written before it.
-use mathlib.Core.Path.{refl}
+-- `snapshot_answers::write_certificate` meets its contract: each part stands behind what was written before it. The making of a part gives its length.
+use mathlib.Core.Path.{refl, _∙_}
 use borrow.Author.Needs.{needs}
 use Rattle.rules.specs.AnswerNumbers.{Amount, YesOrNo}
 use Rattle.answer_bytes.proofs.Parts.{value-behind}
@@ -23,6 +23,17 @@ returns c =
     let representable = value-behind committed 1 _ (YesOrNo (certificate .representable)) refl (flag-is (at-representable .write12 .ensures) (at-representable .before .flag2 .ensures)) in
     value-behind representable 8 _ (Amount (certificate .since .0)) refl (at-since .write-amount3 .ensures)
 
+-- each write leaves the output as long as it was
+same-length : tie.Need-same-length
+same-length c =
+    let since = c .before in
+    let representable = since .before .before .before .before in
+    let committed = representable .before .before .before .before .before in
+    let initial = committed .before .before .before .before in
+    let balanced = initial .before .before .before .before in
+    let words = balanced .before .before .before .before .before in
+    since .output6 .given .1 ∙ representable .output5 .given .1 ∙ committed .output4 .given .1 ∙ initial .output3 .given .1 ∙ balanced .output2 .given .1 ∙ words .output .given
+
 pub write-certificate-spec : {M : Type 1} → statement M
 write-certificate-spec =
     tie.close
@@ -32,23 +43,23 @@ write-certificate-spec =
     (λ c. search needs)
     (λ c. search needs)
     (λ c κs. search needs)
-    (λ c κs. search needs)
+    (λ c κs. c .before .write1-arg .given .2)
+    (λ c. search needs)
+    (λ c. search needs)
+    (λ c. search needs)
+    (λ c κs. c .write-amount-arg .given .2)
+    (λ c. search needs)
+    (λ c. search needs)
+    (λ c. search needs)
+    (λ c κs. c .write-amount-arg2 .given .2)
     (λ c. search needs)
     (λ c. search needs)
     (λ c. search needs)
     (λ c κs. search needs)
+    (λ c κs. c .before .write1-arg2 .given .2)
     (λ c. search needs)
     (λ c. search needs)
     (λ c. search needs)
-    (λ c κs. search needs)
-    (λ c. search needs)
-    (λ c. search needs)
-    (λ c. search needs)
-    (λ c κs. search needs)
-    (λ c κs. search needs)
-    (λ c. search needs)
-    (λ c. search needs)
-    (λ c. search needs)
-    (λ c κs. search needs)
-    (λ c. search needs)
+    (λ c κs. c .write-amount-arg3 .given .2)
+    same-length
     returns)
