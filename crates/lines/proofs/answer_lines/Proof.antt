@@ -58,7 +58,7 @@ module _ (c : tie.After-answer-next Inv-loop μ-loop) where
   part-after = c .answer-next .last .1 .1 .1 .1 .0
 
   part-kept : length part-after ≡ length part
-  part-kept = search needs
+  part-kept = omega (arith, c .answer-next .kept)
 
   module _ (r : Next) (is : c .answer-next .result ≡ r) where
     found : NextFound rest r
@@ -69,9 +69,12 @@ module _ (c : tie.After-answer-next Inv-loop μ-loop) where
         subst (λ input. NextAnswered l input (turn-of .loop .room) after part part-after r) (rest-is (turn-of .loop .used) (entry turn-of .args .input .now))
         (subst (NextAnswered l (partFrom (turn-of .loop .used) (entry turn-of .args .input .now)) (turn-of .loop .room) after part part-after) is (c .answer-next .ensures .1 l lent))
 
+abbrev asked : tie.After-enum-told Inv-loop μ-loop → tie.After-answer-next Inv-loop μ-loop
+asked c = c .before .before .before .before .before .before .before .before
+
 returns : tie.Need-returns Inv-loop μ-loop
 returns c =
-    let a = c .before .before .before .before .before .before .before .before in
+    let a = asked c in
     let o = turn-of a .loop in (
       λ l is. stopped (after a) (part-after a) (o .inv .6 l is) (o .inv .2) (promise a next.Stopped (c .enum-told .given .1)),
       passed (turn-of a),
@@ -115,8 +118,8 @@ loop-again c =
       omega (arith, used-within c),
       omega (arith, written-fits c, kept),
       kept ∙ o .inv .2,
-      search needs,
-      search needs,
+      c .before .before .before .before .before .before .before .before .room .given ∙ o .inv .3,
+      c .before .before .before .before .before .before .work .given ∙ o .inv .4,
       stays-known known (operationOfLine (take (end c) (rest a))) (o .room) (after a) (part a) (part-after a) (size c) (o .inv .5) (promised c),
       λ l is. turn (after a) (part-after a) (end c) (size c) (o .inv .6 l is) (first c) (promised c),
     )
@@ -140,16 +143,16 @@ answer-lines-spec =
     (λ c κs. search needs)
     (λ c. search needs)
     (λ c. search needs)
-    (λ c. search needs)
-    (λ c. search needs)
-    (λ c. search needs)
+    (λ c. c .before .before .before .before .before .before .before .room .given ∙ turn-of (asked c) .loop .inv .3)
+    (λ c. c .before .before .before .before .before .work .given ∙ turn-of (asked c) .loop .inv .4)
+    (λ c. c .before .before .before .output .given .1 ∙ turn-of (asked c) .loop .inv .2)
     returns
     (λ c. omega (arith, used-within c))
     (λ c. omega (arith, used-within c))
     (λ c. omega (arith, written-fits c))
     (λ c. omega (arith, used-within c))
     loop-again
-    (λ c. search needs)
-    (λ c. search needs)
-    (λ c. search needs)
+    (λ c. c .before .loop .inv .3)
+    (λ c. c .before .loop .inv .4)
+    (λ c. c .before .loop .inv .2)
     returns-2)
