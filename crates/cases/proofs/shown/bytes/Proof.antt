@@ -1,0 +1,26 @@
+-- `cases::shown::bytes` ends and stays within the bytes.
+use Prim.Native.Nat.{_-_, _≤_}
+use lib.ListN.{length}
+use borrow.Author.Needs.{needs}
+use Rattle.cases.proofs.shown.bytes.Statement.{statement}
+use Rattle.cases.proofs.shown.bytes.Tie as tie
+
+abbrev Inv-loop : tie.InvT-loop
+Inv-loop values at₀ at = at ≤ length values
+
+abbrev μ-loop : tie.MeasureT-loop
+μ-loop values at₀ at = length values - at
+
+pub bytes-spec : {M : Type 1} → statement M
+bytes-spec =
+    tie.close
+    (tie.spec
+    Inv-loop
+    μ-loop
+    (λ c. search needs)
+    (λ c. search needs)
+    (λ c κs. search needs)
+    (λ c. search needs)
+    (λ c. search needs)
+    (λ c. search needs)
+    (λ c. search needs))

@@ -1,0 +1,26 @@
+-- `cases::text::split` meets its contract and ends.
+use Prim.Native.Nat.{_≤_}
+use lib.ListN.{length}
+use borrow.Author.Needs.{needs}
+use Rattle.cases.proofs.text.split.Statement.{statement}
+use Rattle.cases.proofs.text.split.Tie as tie
+
+abbrev Inv-loop : tie.InvT-loop
+Inv-loop words last₀ last = last ≤ length words
+
+abbrev μ-loop : tie.MeasureT-loop
+μ-loop words last₀ last = last
+
+pub split-spec : {M : Type 1} → statement M
+split-spec =
+    tie.close
+    (tie.spec
+    Inv-loop
+    μ-loop
+    (λ c. search needs)
+    (λ c. search needs)
+    (λ c. search needs)
+    (λ c. search needs)
+    (λ c. search needs)
+    (λ c. search needs)
+    (λ c. search needs))
