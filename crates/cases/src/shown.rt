@@ -7,7 +7,7 @@ const FIRST_NEGATIVE: u64 = 9223372036854775808;
 
 const WORD_SIZE: usize = 8;
 
-// A certificate's.
+// The longest answer that a call here gives is a certificate's.
 pub const LONGEST_ANSWER: usize = 51;
 
 pub fn text(characters: &[u8]) {
