@@ -20,17 +20,17 @@ use Rattle.rules.proofs.Places.{account-holds}
 use Rattle.moves.specs.Moves.{accountOf, meaning, keptSeat, SeatSound}
 use Rattle.moves.specs.declared.Seat.{Seat}
 use Rattle.records.specs.declared.Place.{Place}
-use Rattle.contents.specs.Contents.{contentsOf, Sized, usedPlaces, placeOfName}
-use Rattle.contents.specs.Room.{contentsIn, IsRoom, SoundRoom, Performs}
-use Rattle.contents.specs.Seats.{FoundIn, seatFound}
-use Rattle.contents.specs.declared.Found.{Found}
-use Rattle.contents.specs.declared.Found.the-variants.{At, Absent}
-use Rattle.contents.proofs.Seating.{seat-found, kept-account, kept-limit, seat-sound}
+use Rattle.room.specs.Contents.{contentsOf, Sized, usedPlaces, placeOfName}
+use Rattle.room.specs.Room.{contentsIn, IsRoom, SoundRoom, Performed}
+use Rattle.room.specs.Seats.{FoundIn, seatFound}
+use Rattle.room.specs.declared.Found.{Found}
+use Rattle.room.specs.declared.Found.the-variants.{At, Absent}
+use Rattle.room.proofs.Seating.{seat-found, kept-account, kept-limit, seat-sound}
 use Rattle.lookup.proofs.Places.{name-found, noPlace}
-use Rattle.lookup.proofs.SoundRoom.{places-are, sized, names-short}
-use Rattle.writing.specs.Writing.{WritesSeat}
-use Rattle.writing.specs.declared.Written.{Written}
-use Rattle.writing.specs.declared.Written.the-variants.{Done, NamesFull}
+use Rattle.room.proofs.SoundRoom.{places-are, sized, names-short}
+use Rattle.seats.specs.Writing.{WritesSeat}
+use Rattle.seats.specs.declared.Written.{Written}
+use Rattle.seats.specs.declared.Written.the-variants.{Done, NamesFull}
 use Rattle.accounts.proofs.Writes.{Vacates, ensure-vacates, top-up-vacates, limit-vacates}
 
 -- what a look-up answers is in the places
@@ -96,7 +96,7 @@ module _ {xs : List ℕ} {a : Name} {found : Found} {s : Seat} (seen : Seen xs a
 
 module _ {xs : List ℕ} {a : Name} (o : OnName a) (L : Ledger) (room : IsRoom xs L) where
   -- nothing changed
-  unchanged : (r : Reply) → o .carry L ≡ outcome r L → Performs (o .carry) L r xs
+  unchanged : (r : Reply) → o .carry L ≡ outcome r L → Performed (o .carry) L r xs
   unchanged r e = record { answer = sym (ap (λ p. p .reply) e); room = subst (λ (p : Outcome). IsRoom xs (p .ledger)) (sym e) room }
 
   -- the move of the rule, behind the test of the name
@@ -108,7 +108,7 @@ module _ {xs : List ℕ} {a : Name} (o : OnName a) (L : Ledger) (room : IsRoom x
   carried = o .is L
 
   -- 19 before any rule
-  pub too-long : 24 < length a → Performs (o .carry) L (replyOf NameTooLong) xs
+  pub too-long : 24 < length a → Performed (o .carry) L (replyOf NameTooLong) xs
   unfolding moved perform
   too-long h = unchanged (replyOf NameTooLong) (carried ∙ ap moved (lt-ltb 24 (length a) h))
 
@@ -120,22 +120,22 @@ module _ {xs : List ℕ} {a : Name} (o : OnName a) (L : Ledger) (room : IsRoom x
         ∙ ap moved (le-ltb 24 (length a) (seen .short))
         ∙ sym (ap (perform L a) (e ∙ λ i. o .rule (seen-account seen L room i) (seen-limit seen L room i)))
 
-    pub refuses : (e : Refusal) → refuse e ≡ o .rule (accountOf s) (s .limit) → Performs (o .carry) L (replyOf e) xs
+    pub refuses : (e : Refusal) → refuse e ≡ o .rule (accountOf s) (s .limit) → Performed (o .carry) L (replyOf e) xs
     unfolding perform
     refuses e q = unchanged (replyOf e) (decided (refuse e) q)
 
-    pub tells : (zs : List ℤ) → tell zs ≡ o .rule (accountOf s) (s .limit) → Performs (o .carry) L (doneWith zs) xs
+    pub tells : (zs : List ℤ) → tell zs ≡ o .rule (accountOf s) (s .limit) → Performed (o .carry) L (doneWith zs) xs
     unfolding perform
     tells zs q = unchanged (doneWith zs) (decided (tell zs) q)
 
     module _ (zs : List ℤ) (t : Seat) (q : write zs (meaning t) ≡ o .rule (accountOf s) (s .limit)) (ys : List ℕ) (w : Written) (done : WritesSeat a t L xs ys w) where
       -- done, or 20
-      pub writes : Performs (o .carry) L (writtenReply zs w) ys
+      pub writes : Performed (o .carry) L (writtenReply zs w) ys
       unfolding perform
       writes =
           let after : Ledger = withPlaces L (seated a (meaning t) (L .places)) in
           by-bool
-          (λ b. o .carry L ≡ cond b (outcome (doneWith zs) after) (refused FullOfNames L) → w ≡ cond b Done NamesFull → contentsOf ys ≡ cond b (contentsIn after) (contentsIn L) → Performs (o .carry) L (writtenReply zs w) ys)
+          (λ b. o .carry L ≡ cond b (outcome (doneWith zs) after) (refused FullOfNames L) → w ≡ cond b Done NamesFull → contentsOf ys ≡ cond b (contentsIn after) (contentsIn L) → Performed (o .carry) L (writtenReply zs w) ys)
           (hasRoom a (meaning t) L)
           (λ _ m r h. record {
             answer = ap (writtenReply zs) r ∙ sym (ap (λ p. p .reply) m);
@@ -149,11 +149,11 @@ module _ {xs : List ℕ} {a : Name} (o : OnName a) (L : Ledger) (room : IsRoom x
           (decided (write zs (meaning t)) q) (done .answer) (done .holds)
 
       -- the same, with the answer known
-      pub answers : (v : Written) → w ≡ v → Performs (o .carry) L (writtenReply zs v) ys
-      answers v e = subst (λ v. Performs (o .carry) L (writtenReply zs v) ys) e writes
+      pub answers : (v : Written) → w ≡ v → Performed (o .carry) L (writtenReply zs v) ys
+      answers v e = subst (λ v. Performed (o .carry) L (writtenReply zs v) ys) e writes
 
       -- a name with an account holds a place, so there is room
-      pub writes-held : hasAccount (accountOf s) ≡ true → Performs (o .carry) L (doneWith zs) ys
+      pub writes-held : hasAccount (accountOf s) ≡ true → Performed (o .carry) L (doneWith zs) ys
       writes-held has =
           let held : holdsPlace a (L .places) ≡ true = account-holds a (L .places) (subst (λ c. hasAccount c ≡ true) (seen-account seen L room) has) in
           answers Done (done .answer ∙ ap (λ b. cond b Done NamesFull) (or-held (isVacant (meaning t)) (holdsPlace a (L .places)) (ltb (length (L .places)) (L .T)) held))

@@ -3,11 +3,10 @@ use moves::Ensuring;
 use moves::Limiting;
 use moves::ToppingUp;
 use numbers::Microcents;
-use writing::Written;
+use seats::Written;
 ghost use mathlib.Core.Path.{_≡_};
-ghost use Rattle.rules.specs.RoomAndSoundLedger.{Ledger};
 ghost use Rattle.rules.specs.AccountRules.{ensure, topUp, limit, operate};
-ghost use Rattle.contents.specs.Room.{SoundRoom, IsRoom, Performs};
+ghost use Rattle.room.specs.Room.{SoundRoom, Performs};
 ghost use Rattle.accounts.specs.Answers.{ensuredReply, toppedUpReply, limitedReply};
 
 // UnsoundLedger is given by the operations on any memory that stand above these.
@@ -41,7 +40,7 @@ const LONGEST_NAME: usize = 24;
 
 pub fn ensure(room: &mut [u8], part: &[u8], amount: Microcents) -> Ensured
     requires { ⌜ SoundRoom (now room) ⌝ }
-    ensures { λ r. ⌜ ((L : Ledger) → IsRoom (now (room .entry)) L → Performs (λ K. operate K (ensure (now (part .entry)) (amount .0))) L (ensuredReply r) (now (room .exit))) ⌝ }
+    ensures { λ r. ⌜ Performs (λ K. operate K (ensure (now (part .entry)) (amount .0))) (now (room .entry)) (ensuredReply r) (now (room .exit)) ⌝ }
 {
     if LONGEST_NAME < part.len() {
         return Ensured::NameTooLong;
@@ -53,7 +52,7 @@ pub fn ensure(room: &mut [u8], part: &[u8], amount: Microcents) -> Ensured
         Ensuring::Negative => Ensured::NegativeAmount(amount),
         Ensuring::Present => Ensured::Done,
         Ensuring::Opened(opened) => {
-            let written = writing::write_seat(room, part, found, opened);
+            let written = seats::write_seat(room, part, found, opened);
             match written {
                 Written::Done => Ensured::Done,
                 Written::NamesFull => Ensured::NamesFull,
@@ -64,7 +63,7 @@ pub fn ensure(room: &mut [u8], part: &[u8], amount: Microcents) -> Ensured
 
 pub fn top_up(room: &mut [u8], part: &[u8], amount: Microcents) -> ToppedUp
     requires { ⌜ SoundRoom (now room) ⌝ }
-    ensures { λ r. ⌜ ((L : Ledger) → IsRoom (now (room .entry)) L → Performs (λ K. operate K (topUp (now (part .entry)) (amount .0))) L (toppedUpReply r) (now (room .exit))) ⌝ }
+    ensures { λ r. ⌜ Performs (λ K. operate K (topUp (now (part .entry)) (amount .0))) (now (room .entry)) (toppedUpReply r) (now (room .exit)) ⌝ }
 {
     if LONGEST_NAME < part.len() {
         return ToppedUp::NameTooLong;
@@ -77,7 +76,7 @@ pub fn top_up(room: &mut [u8], part: &[u8], amount: Microcents) -> ToppedUp
         ToppingUp::Missing => ToppedUp::MissingTenant,
         ToppingUp::Overflow => ToppedUp::Overflow,
         ToppingUp::Grown(grown) => {
-            writing::write_seat(room, part, found, grown);
+            seats::write_seat(room, part, found, grown);
             ToppedUp::Done(
                 amount,
                 numbers::amount(grown.initial),
@@ -89,7 +88,7 @@ pub fn top_up(room: &mut [u8], part: &[u8], amount: Microcents) -> ToppedUp
 
 pub fn limit(room: &mut [u8], part: &[u8], amount: Microcents) -> Limited
     requires { ⌜ SoundRoom (now room) ⌝ }
-    ensures { λ r. ⌜ ((L : Ledger) → IsRoom (now (room .entry)) L → Performs (λ K. operate K (limit (now (part .entry)) (amount .0))) L (limitedReply r) (now (room .exit))) ⌝ }
+    ensures { λ r. ⌜ Performs (λ K. operate K (limit (now (part .entry)) (amount .0))) (now (room .entry)) (limitedReply r) (now (room .exit)) ⌝ }
 {
     if LONGEST_NAME < part.len() {
         return Limited::NameTooLong;
@@ -100,7 +99,7 @@ pub fn limit(room: &mut [u8], part: &[u8], amount: Microcents) -> Limited
     match decided {
         Limiting::Negative => Limited::NegativeAmount(amount),
         Limiting::Changed(changed) => {
-            let written = writing::write_seat(room, part, found, changed);
+            let written = seats::write_seat(room, part, found, changed);
             match written {
                 Written::Done => Limited::Done,
                 Written::NamesFull => Limited::NamesFull,

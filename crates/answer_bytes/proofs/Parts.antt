@@ -8,12 +8,13 @@ use lib.Seq.{length-take-le}
 use Rattle.rules.specs.AnswerNumbers.{Value, TheName, reply}
 use Rattle.rules.specs.SnapshotsMigrationCertificates.{bytesOf, nameBytes}
 use Rattle.rules.specs.Frames.{valueBytes, replyBytes}
+use Rattle.rules.proofs.Lists.{flatMap-append, flatMap-one}
 use Rattle.rules.proofs.Numbers.{bytes-length}
 use Rattle.names.specs.declared.Name.{Name}
 use Rattle.names.specs.Names.{spelled}
 use Rattle.numbers.specs.LittleEndian.{littleBytes}
 use Rattle.records.specs.Rows.{put}
-use Rattle.row_writer.proofs.Appending.{put-behind, flatMap-append, flatMap-one}
+use Rattle.records.proofs.Rows.{put-behind}
 use Rattle.answer_bytes.specs.Writing.{WritesReply}
 
 -- a single byte is the same from either end

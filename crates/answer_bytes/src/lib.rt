@@ -57,7 +57,7 @@ pub fn write_named(output: &mut [u8], number: u8, name: Name) -> usize
 {
     let end = 2 + name.length as usize;
     numbers::write1(&mut output[0..1], number);
-    row_writer::write_name(&mut output[1..end], name);
+    names::write_name(&mut output[1..end], name);
     end
 }
 
@@ -68,7 +68,7 @@ pub fn write_named_word(output: &mut [u8], number: u8, name: Name, word: u64) ->
     let from = 2 + name.length as usize;
     let end = from + 8;
     numbers::write1(&mut output[0..1], number);
-    row_writer::write_name(&mut output[1..from], name);
+    names::write_name(&mut output[1..from], name);
     big_endian::write8(&mut output[from..end], word);
     end
 }
@@ -81,7 +81,7 @@ pub fn write_named_field(output: &mut [u8], number: u8, name: Name, field: u8, w
     let from = byte + 1;
     let end = from + 8;
     numbers::write1(&mut output[0..1], number);
-    row_writer::write_name(&mut output[1..byte], name);
+    names::write_name(&mut output[1..byte], name);
     numbers::write1(&mut output[byte..from], field);
     big_endian::write8(&mut output[from..end], word);
     end

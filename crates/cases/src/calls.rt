@@ -3,8 +3,8 @@
 use crate::shown::LONGEST_ANSWER;
 use crate::text;
 use crate::text::Numbers;
-use ledger::Counted;
-use ledger::Since;
+use any_memory_accounts::Counted;
+use any_memory_accounts::Since;
 use numbers::Identifier;
 use numbers::Microcents;
 use reads::Reading;
@@ -27,10 +27,10 @@ fn on_account(
 ) -> usize {
     let place = text::place(operation, b"ensure top-up limit reserve");
     match place {
-        0 => account_answers::write_ensured(answer, ledger::ensure(memory, name, amount)),
-        1 => account_answers::write_topped_up(answer, ledger::top_up(memory, name, amount)),
-        2 => account_answers::write_limited(answer, ledger::limit(memory, name, amount)),
-        3 => account_answers::write_reserved(answer, ledger::reserve(memory, name, amount)),
+        0 => account_answers::write_ensured(answer, any_memory_accounts::ensure(memory, name, amount)),
+        1 => account_answers::write_topped_up(answer, any_memory_accounts::top_up(memory, name, amount)),
+        2 => account_answers::write_limited(answer, any_memory_accounts::limit(memory, name, amount)),
+        3 => account_answers::write_reserved(answer, any_memory_accounts::reserve(memory, name, amount)),
         _ => 0,
     }
 }
@@ -51,11 +51,11 @@ pub fn change(
         ),
         1 => account_answers::write_committed(
             answer,
-            ledger::commit(memory, Identifier(numbers.first), amount),
+            any_memory_accounts::commit(memory, Identifier(numbers.first), amount),
         ),
         2 => account_answers::write_released(
             answer,
-            ledger::release(memory, Identifier(numbers.second)),
+            any_memory_accounts::release(memory, Identifier(numbers.second)),
         ),
         _ => on_account(operation, name, amount, memory, answer),
     }
@@ -103,14 +103,14 @@ pub fn read(
         b"remaining initial committed reserved committed-total accounts live committed-since",
     );
     match place {
-        0 => write_reading(answer, ledger::remaining(memory, name)),
-        1 => write_reading(answer, ledger::initial(memory, name)),
-        2 => write_reading(answer, ledger::committed(memory, name)),
-        3 => write_reading(answer, ledger::reserved(memory, name)),
-        4 => write_total(answer, ledger::committed_total(memory)),
-        5 => write_counted(answer, ledger::accounts(memory)),
-        6 => write_counted(answer, ledger::live(memory)),
-        7 => write_since(answer, ledger::committed_since(memory)),
+        0 => write_reading(answer, any_memory_accounts::remaining(memory, name)),
+        1 => write_reading(answer, any_memory_accounts::initial(memory, name)),
+        2 => write_reading(answer, any_memory_accounts::committed(memory, name)),
+        3 => write_reading(answer, any_memory_accounts::reserved(memory, name)),
+        4 => write_total(answer, any_memory_accounts::committed_total(memory)),
+        5 => write_counted(answer, any_memory_accounts::accounts(memory)),
+        6 => write_counted(answer, any_memory_accounts::live(memory)),
+        7 => write_since(answer, any_memory_accounts::committed_since(memory)),
         _ => 0,
     }
 }
@@ -124,12 +124,12 @@ fn certify(
 ) -> usize {
     let place = text::place(operation, b"certificate certificate-of proof");
     match place {
-        0 => snapshot_answers::write_certified(answer, snapshots::certificate(memory)),
+        0 => snapshot_answers::write_certified(answer, any_memory_snapshots::certificate(memory)),
         1 => snapshot_answers::write_certified(
             answer,
-            snapshots::certificate_of_snapshot(supplied, since),
+            any_memory_snapshots::certificate_of_snapshot(supplied, since),
         ),
-        2 => snapshot_answers::write_proved(answer, snapshots::conservation_proof(memory)),
+        2 => snapshot_answers::write_proved(answer, any_memory_snapshots::conservation_proof(memory)),
         _ => 0,
     }
 }
@@ -145,13 +145,13 @@ pub fn judge(
 ) -> usize {
     let place = text::place(operation, b"restore recovery-restore migrate status");
     match place {
-        0 => snapshot_answers::write_judged(answer, snapshots::restore(memory, supplied)),
-        1 => snapshot_answers::write_judged(answer, snapshots::recovery_restore(memory, supplied)),
+        0 => snapshot_answers::write_judged(answer, any_memory_snapshots::restore(memory, supplied)),
+        1 => snapshot_answers::write_judged(answer, any_memory_snapshots::recovery_restore(memory, supplied)),
         2 => snapshot_answers::write_judged(
             answer,
-            snapshots::migrate(supplied, numbers.second, output),
+            any_memory_snapshots::migrate(supplied, numbers.second, output),
         ),
-        3 => snapshot_answers::write_judged(answer, snapshots::status(supplied)),
+        3 => snapshot_answers::write_judged(answer, any_memory_snapshots::status(supplied)),
         _ => certify(
             operation,
             big_endian::signed(numbers.amount),

@@ -6,7 +6,7 @@ use crate::shown;
 use crate::shown::LONGEST_ANSWER;
 use crate::text;
 use crate::text::Numbers;
-use ledger::Versioned;
+use any_memory_accounts::Versioned;
 use lines::Progress;
 use snapshot_writer::Snapshotted;
 ghost use mathlib.Core.Path.{_≡_};
@@ -65,7 +65,7 @@ fn snapshot_refused(number: u8) {
 
 fn snapshot(line: &[u8], memory: &mut [u8], output: &mut [u8]) -> bool {
     shown::echo(line);
-    match snapshots::snapshot(memory, output) {
+    match any_memory_snapshots::snapshot(memory, output) {
         Snapshotted::Written(size) => snapshot_size(size),
         Snapshotted::AllocatorExhausted => snapshot_refused(9),
         Snapshotted::OutputTooShort => snapshot_refused(22),
@@ -83,7 +83,7 @@ fn version(number: u64) {
 // A version has 64 bits and no sign.
 fn last_version(line: &[u8], memory: &[u8]) -> bool {
     shown::echo(line);
-    match ledger::last_version(memory) {
+    match any_memory_accounts::last_version(memory) {
         Versioned::Version(number) => version(number),
         Versioned::UnsoundLedger => shown::text(b"24\n"),
     }

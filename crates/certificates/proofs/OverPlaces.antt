@@ -17,11 +17,11 @@ use Rattle.moves.specs.Moves.{kept, keptSeat}
 use Rattle.records.specs.Rows.{row}
 use Rattle.records.specs.Records.{sizesOf, placeOf}
 use Rattle.records.specs.declared.Place.{Place}
-use Rattle.contents.specs.Contents.{contentsOf, usedPlaces}
-use Rattle.contents.specs.Room.{placeWith, placeRecord, IsRoom}
-use Rattle.lookup.proofs.ByIndex.{all-read}
-use Rattle.lookup.proofs.InRoom.{used-places, loaded-place}
-use Rattle.lookup.proofs.SoundRoom.{places-are, sized}
+use Rattle.room.specs.Contents.{contentsOf, usedPlaces}
+use Rattle.room.specs.Room.{placeWith, placeRecord, IsRoom}
+use Rattle.rules.proofs.ByIndex.{all-read}
+use Rattle.room.proofs.InRoom.{used-places, loaded-place}
+use Rattle.room.proofs.SoundRoom.{places-are, sized}
 use Rattle.reads.proofs.Sums.{sumTo, sum-none, sum-next, sum-all}
 use Rattle.certificates.proofs.Adding.{Totalled, Plus, one-more}
 

@@ -18,8 +18,8 @@ use Rattle.records.specs.declared.Sizes.{Sizes}
 use Rattle.heads.specs.Heads.{stampedHead}
 use Rattle.heads.specs.declared.Stamped.{Stamped}
 use Rattle.heads.specs.declared.Stamped.the-variants as stamped
-use Rattle.contents.specs.Room.{headIn, IsRoom}
-use Rattle.lookup.proofs.SoundRoom.{sizes-are, head-is}
+use Rattle.room.specs.Room.{headIn, IsRoom}
+use Rattle.room.proofs.SoundRoom.{sizes-are, head-is}
 use Rattle.reads.specs.Answers.{countReply}
 use Rattle.certificates.specs.Certified.{summaryOf, summarizedOf}
 use Rattle.certificates.specs.declared.Summary.{Summary}

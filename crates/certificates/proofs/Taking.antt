@@ -19,8 +19,8 @@ use Rattle.numbers.specs.declared.Microcents.{Microcents}
 use Rattle.records.specs.declared.Head.{Head}
 use Rattle.heads.specs.Heads.{withBaseline}
 use Rattle.heads.specs.declared.Rotated.{Rotated}
-use Rattle.contents.specs.Contents.{contentsOf, withHead}
-use Rattle.contents.specs.Room.{contentsIn, IsRoom, Performs}
+use Rattle.room.specs.Contents.{contentsOf, withHead}
+use Rattle.room.specs.Room.{contentsIn, IsRoom, Performed}
 use Rattle.certificates.specs.Certified.{proofReply, rotationOf, summaryOf}
 use Rattle.certificates.specs.declared.Summary.{Summary}
 use Rattle.certificates.proofs.BothTotals.{Fitting}
@@ -83,7 +83,7 @@ module _ (L : Ledger) (not-last : nextIdIsM L ≡ false) where
 
 module _ (xs : List ℕ) (L : Ledger) (room : IsRoom xs L) (f : Ledger → Outcome) where
   -- "next id M gives 9"
-  pub stays : (o : Outcome) → f L ≡ takingSnapshot L o → nextIdIsM L ≡ true → Performs f L (replyOf AllocatorExhausted) xs
+  pub stays : (o : Outcome) → f L ≡ takingSnapshot L o → nextIdIsM L ≡ true → Performed f L (replyOf AllocatorExhausted) xs
   unfolding takingSnapshot
   stays o e last =
       let q : f L ≡ refused AllocatorExhausted L = e ∙ (rw last) in
@@ -91,7 +91,7 @@ module _ (xs : List ℕ) (L : Ledger) (room : IsRoom xs L) (f : Ledger → Outco
 
   -- another head in the room
   pub becomes : Sound (f L .ledger) → (r s : Reply) (g h : Head) → f L ≡ outcome s (headed h L) → r ≡ s → g ≡ h
-      → (ys : List ℕ) → (length ys ≡ length xs) × (contentsOf ys ≡ withHead g (contentsOf xs)) → Performs f L r ys
+      → (ys : List ℕ) → (length ys ≡ length xs) × (contentsOf ys ≡ withHead g (contentsOf xs)) → Performed f L r ys
   unfolding contentsIn
   becomes known r s g h e q same ys (l, k) =
       record {

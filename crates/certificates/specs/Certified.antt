@@ -11,7 +11,7 @@ use Rattle.rules.specs.SnapshotsMigrationCertificates.{Row, afterSnapshot, snap
 use Rattle.records.specs.declared.Head.{Head}
 use Rattle.heads.specs.Heads.{rotatedHead}
 use Rattle.heads.specs.declared.Rotated.{Rotated}
-use Rattle.contents.specs.Room.{headIn}
+use Rattle.room.specs.Room.{headIn}
 use Rattle.certificates.specs.declared.Certificate.{Certificate}
 use Rattle.certificates.specs.declared.Certified.{Certified}
 use Rattle.certificates.specs.declared.Certified.the-variants as certified

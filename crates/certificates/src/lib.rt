@@ -9,15 +9,13 @@ use totals::Total;
 use validation::Verdict;
 ghost use mathlib.Core.Path.{_≡_};
 ghost use mathlib.Core.List.{List};
-ghost use mathlib.Core.Option.{some};
 ghost use Prim.Native.Nat.{ℕ};
 ghost use lib.IntN.{pos};
 ghost use lib.ListN.{length};
-ghost use Rattle.rules.specs.RoomAndSoundLedger.{Ledger};
-ghost use Rattle.rules.specs.SnapshotsMigrationCertificates.{Row, Snapshot, snapshotOfBytes, accountRows, conservation, committedRowsTotal, totalsFit, isNone, certificate, certificateOfSnapshot, certificateOfLedger, conservationProof};
-ghost use Rattle.snapshot_reader.specs.Standing.{IsSnapshot, ShortNames};
+ghost use Rattle.rules.specs.SnapshotsMigrationCertificates.{Row, Snapshot, accountRows, conservation, committedRowsTotal, totalsFit, isNone, certificate, certificateOfSnapshot, certificateOfLedger, conservationProof};
+ghost use Rattle.snapshot_reader.specs.Standing.{IsSnapshot, ShortNames, OfSnapshot};
 ghost use Rattle.totals.specs.Totals.{valueOf};
-ghost use Rattle.contents.specs.Room.{SoundRoom, IsRoom, Performs};
+ghost use Rattle.room.specs.Room.{SoundRoom, Performs, OfRoom};
 ghost use Rattle.certificates.specs.Certified.{certificateReply, certifiedReply, provedReply, bothFitted, totalsOf, rotationOf, summarizedOf};
 
 pub struct Certificate {
@@ -88,7 +86,7 @@ fn fit_both(initial: Total, committed: Total) -> Totals
 // Rows may be negative: the totals carry and borrow between their words. One pass over the rows.
 fn totals_of_rows(bytes: &[u8]) -> Totals
     requires { ⌜ IsSnapshot (now bytes) ⌝ }
-    ensures { λ r. ⌜ ((s : Snapshot) → snapshotOfBytes (now (bytes .entry)) ≡ some s → r ≡ totalsOf (s .rows)) ⌝ }
+    ensures { λ r. ⌜ OfSnapshot (now (bytes .entry)) (λ s. r ≡ totalsOf (s .rows)) ⌝ }
 {
     let mut initial = totals::nothing();
     let mut committed = totals::nothing();
@@ -105,7 +103,7 @@ fn totals_of_rows(bytes: &[u8]) -> Totals
 // A name without an account has zero amounts, so every place may be added. One pass over the places.
 fn totals_of_places(room: &[u8]) -> Totals
     requires { ⌜ SoundRoom (now room) ⌝ }
-    ensures { λ r. ⌜ ((L : Ledger) → IsRoom (now (room .entry)) L → r ≡ totalsOf (accountRows (L .places))) ⌝ }
+    ensures { λ r. ⌜ OfRoom (now (room .entry)) (λ L. r ≡ totalsOf (accountRows (L .places))) ⌝ }
 {
     let sizes = records::load_sizes(room);
     let used = sizes.used as usize;
@@ -123,7 +121,7 @@ fn totals_of_places(room: &[u8]) -> Totals
 
 fn is_balanced(bytes: &[u8]) -> bool
     requires { ⌜ ShortNames (now bytes) ⌝ }
-    ensures { λ r. ⌜ ((s : Snapshot) → snapshotOfBytes (now (bytes .entry)) ≡ some s → r ≡ isNone (conservation (s .rows))) ⌝ }
+    ensures { λ r. ⌜ OfSnapshot (now (bytes .entry)) (λ s. r ≡ isNone (conservation (s .rows))) ⌝ }
 {
     let judged = validation::conservation(bytes);
     let verdict = judged.verdict;
@@ -171,7 +169,7 @@ fn certify(
 // "Certificate over a supplied snapshot and a given since": two passes over the rows, one for the totals and one for the balance.
 fn of_snapshot(bytes: &[u8], since: Microcents) -> Certificate
     requires { ⌜ ShortNames (now bytes) ⌝ }
-    ensures { λ r. ⌜ ((s : Snapshot) → snapshotOfBytes (now (bytes .entry)) ≡ some s → certificateReply r ≡ certificate s (since .0)) ⌝ }
+    ensures { λ r. ⌜ OfSnapshot (now (bytes .entry)) (λ s. certificateReply r ≡ certificate s (since .0)) ⌝ }
 {
     let version = snapshot_reader::version(bytes);
     let rows = snapshot_reader::count(bytes);
@@ -184,7 +182,7 @@ fn of_snapshot(bytes: &[u8], since: Microcents) -> Certificate
 // 19, and else the certificate.
 pub fn of_supplied(bytes: &[u8], since: Microcents) -> Certified
     requires { ⌜ IsSnapshot (now bytes) ⌝ }
-    ensures { λ r. ⌜ ((s : Snapshot) → snapshotOfBytes (now (bytes .entry)) ≡ some s → certifiedReply r ≡ certificateOfSnapshot (since .0) s) ⌝ }
+    ensures { λ r. ⌜ OfSnapshot (now (bytes .entry)) (λ s. certifiedReply r ≡ certificateOfSnapshot (since .0) s) ⌝ }
 {
     if snapshot_reader::has_long_name(bytes) {
         return Certified::NameTooLong;
@@ -208,7 +206,7 @@ fn rotation(head: Head, totals: Totals) -> Rotated
 // What the ledger's own snapshot says beside its rows, and the head that it stamps: "next id M gives 9". Two passes over the places.
 fn summarize(room: &[u8]) -> Summarized
     requires { ⌜ SoundRoom (now room) ⌝ }
-    ensures { λ r. ⌜ ((L : Ledger) → IsRoom (now (room .entry)) L → r ≡ summarizedOf L) ⌝ }
+    ensures { λ r. ⌜ OfRoom (now (room .entry)) (λ L. r ≡ summarizedOf L) ⌝ }
 {
     let Stamped::Next(head) = heads::stamp(records::load_head(room)) else {
         return Summarized::AllocatorExhausted;
@@ -227,7 +225,7 @@ fn summarize(room: &[u8]) -> Summarized
 // "Certificate of the ledger: takes a snapshot (9 possible ..)". A sound ledger's own snapshot is balanced.
 pub fn of_ledger(room: &mut [u8]) -> Certified
     requires { ⌜ SoundRoom (now room) ⌝ }
-    ensures { λ r. ⌜ ((L : Ledger) → IsRoom (now (room .entry)) L → Performs certificateOfLedger L (certifiedReply r) (now (room .exit))) ⌝ }
+    ensures { λ r. ⌜ Performs certificateOfLedger (now (room .entry)) (certifiedReply r) (now (room .exit)) ⌝ }
 {
     let Summarized::Taken(summary) = summarize(room) else {
         return Certified::AllocatorExhausted;
@@ -244,7 +242,7 @@ pub fn of_ledger(room: &mut [u8]) -> Certified
 // "takes a snapshot (9), then 15 if totals don't fit": then next id and last version have moved.
 pub fn prove(room: &mut [u8]) -> Proved
     requires { ⌜ SoundRoom (now room) ⌝ }
-    ensures { λ r. ⌜ ((L : Ledger) → IsRoom (now (room .entry)) L → Performs conservationProof L (provedReply r) (now (room .exit))) ⌝ }
+    ensures { λ r. ⌜ Performs conservationProof (now (room .entry)) (provedReply r) (now (room .exit)) ⌝ }
 {
     let Summarized::Taken(summary) = summarize(room) else {
         return Proved::AllocatorExhausted;

@@ -20,8 +20,8 @@ use Rattle.rules.proofs.SnapshotBytes.{snapshot-only}
 use Rattle.rules.proofs.SnapshotSoundness.{restored-account}
 use Rattle.moves.specs.Moves.{meaning, keptSeat, SeatSound}
 use Rattle.moves.specs.declared.Seat.{Seat}
-use Rattle.contents.specs.Room.{contentsIn, IsRoom, SoundRoom}
-use Rattle.contents.proofs.Decoding.{one-ledger}
+use Rattle.room.specs.Room.{contentsIn, IsRoom, SoundRoom}
+use Rattle.room.proofs.Decoding.{one-ledger}
 use Rattle.snapshot_reader.specs.Standing.{EndsName}
 use Rattle.filling.specs.Filling.{Takes, Holds, seatOfRow, PutsRows}
 use Rattle.filling.proofs.Placing.{Pass, restored-more, not-held, capped-total, rows-sound, row-fits, row-short, row-restorable, row-unseen, room-left}

@@ -9,10 +9,10 @@ use Rattle.rules.proofs.SnapshotSoundness.{fresh-sound}
 use Rattle.records.specs.Records.{sizesOf}
 use Rattle.records.specs.declared.Head.{Head}
 use Rattle.records.specs.declared.Sizes.{Sizes}
-use Rattle.contents.specs.Contents.{contentsOf, withHead}
-use Rattle.contents.specs.Room.{contentsIn, IsRoom}
-use Rattle.contents.proofs.Decoding.{one-ledger}
-use Rattle.lookup.proofs.SoundRoom.{sizes-are}
+use Rattle.room.specs.Contents.{contentsOf, withHead}
+use Rattle.room.specs.Room.{contentsIn, IsRoom}
+use Rattle.room.proofs.Decoding.{one-ledger}
+use Rattle.room.proofs.SoundRoom.{sizes-are}
 use Rattle.soundness.specs.Making.{Makes}
 use Rattle.soundness.specs.declared.Made.{Made}
 use Rattle.soundness.proofs.Fresh.{made-fresh}

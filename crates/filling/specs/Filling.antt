@@ -9,8 +9,8 @@ use Rattle.rules.specs.RoomAndSoundLedger.{M, Ledger, committedTotal, fresh}
 use Rattle.rules.specs.AccountRules.{natural, withPlaces}
 use Rattle.rules.specs.SnapshotsMigrationCertificates.{Row, Snapshot, snapshotOfBytes, hasLongName, validation, restoredPlaces}
 use Rattle.moves.specs.declared.Seat.{Seat}
-use Rattle.contents.specs.Contents.{contentsOf}
-use Rattle.contents.specs.Room.{contentsIn, IsRoom}
+use Rattle.room.specs.Contents.{contentsOf}
+use Rattle.room.specs.Room.{contentsIn, IsRoom}
 
 -- a snapshot that a ledger with room for so many names takes: "then validation; more rows than T gives 20"
 pub record Takes (names : ℕ) (bs : List ℕ) : Type 0 where

@@ -6,17 +6,17 @@ use records::Head;
 use snapshot_reader::StandingRow;
 ghost use mathlib.Core.Path.{_≡_};
 ghost use mathlib.Core.Bool.{true, false};
-ghost use mathlib.Core.Option.{some};
 ghost use Prim.Native.Nat.{_+_, _≤_, min};
 ghost use lib.IntN.{pos};
 ghost use lib.Signed.{ltZ};
 ghost use lib.ListN.{length};
-ghost use Rattle.rules.specs.RoomAndSoundLedger.{M, Ledger, isVacant, fresh};
+ghost use Rattle.rules.specs.RoomAndSoundLedger.{M, isVacant, fresh};
 ghost use Rattle.rules.specs.AccountRules.{natural, seated, hasRoom, withPlaces};
-ghost use Rattle.rules.specs.SnapshotsMigrationCertificates.{Row, Snapshot, snapshotOfBytes, restored};
+ghost use Rattle.rules.specs.SnapshotsMigrationCertificates.{Row, restored};
 ghost use Rattle.moves.specs.Moves.{meaning, SeatSound};
-ghost use Rattle.contents.specs.Room.{SoundRoom, IsRoom};
+ghost use Rattle.room.specs.Room.{SoundRoom, OfRoom};
 ghost use Rattle.filling.specs.Filling.{Takes, Holds, seatOfRow, PutsRows};
+ghost use Rattle.snapshot_reader.specs.Standing.{OfSnapshot};
 
 fn natural(amount: Microcents) -> u64
     requires { ⌜ ltZ (amount .0) (pos 0) ≡ false ⌝ }
@@ -52,17 +52,17 @@ fn seat_of(row: StandingRow) -> Seat
 }
 
 fn put_row(room: &mut [u8], part: &[u8], seat: Seat)
-    requires { ⌜ SoundRoom (now room) × (length (now part) ≤ 24) × SeatSound seat × (isVacant (meaning seat) ≡ false) × ((L : Ledger) → IsRoom (now room) L → hasRoom (now part) (meaning seat) L ≡ true) ⌝ }
-    ensures { λ _. ⌜ ((L : Ledger) → IsRoom (now (room .entry)) L → Holds (withPlaces L (seated (now (part .entry)) (meaning seat) (L .places))) (now (room .entry)) (now (room .exit))) ⌝ }
+    requires { ⌜ SoundRoom (now room) × (length (now part) ≤ 24) × SeatSound seat × (isVacant (meaning seat) ≡ false) × (OfRoom (now room) (λ L. hasRoom (now part) (meaning seat) L ≡ true)) ⌝ }
+    ensures { λ _. ⌜ OfRoom (now (room .entry)) (λ L. Holds (withPlaces L (seated (now (part .entry)) (meaning seat) (L .places))) (now (room .entry)) (now (room .exit))) ⌝ }
 {
     let found = lookup::find(room, part);
-    writing::write_seat(room, part, found, seat);
+    seats::write_seat(room, part, found, seat);
 }
 
 // One pass over the rows; each is looked for among those already put, which ascend, and rows that come in ascending order move nothing.
 fn put_rows(room: &mut [u8], bytes: &[u8]) -> u64
-    requires { ⌜ SoundRoom (now room) × ((L : Ledger) → IsRoom (now room) L → (L ≡ fresh (L .T) (L .R)) × Takes (L .T) (now bytes)) ⌝ }
-    ensures { λ r. ⌜ ((L : Ledger) → IsRoom (now (room .entry)) L → (s : Snapshot) → snapshotOfBytes (now (bytes .entry)) ≡ some s → PutsRows (L .T) (L .R) (s .rows) (now (room .exit)) r) ⌝ }
+    requires { ⌜ SoundRoom (now room) × (OfRoom (now room) (λ L. (L ≡ fresh (L .T) (L .R)) × Takes (L .T) (now bytes))) ⌝ }
+    ensures { λ r. ⌜ OfRoom (now (room .entry)) (λ L. OfSnapshot (now (bytes .entry)) (λ s. PutsRows (L .T) (L .R) (s .rows) (now (room .exit)) r)) ⌝ }
 {
     let mut baseline = 0;
     let mut at = 18;
@@ -79,8 +79,8 @@ fn put_rows(room: &mut [u8], bytes: &[u8]) -> u64
 
 // "It clears live reservations and limits, sets next id to the low 63 bits, last version, and the baseline to the committed total or M."
 pub fn fill(room: &mut [u8], bytes: &[u8])
-    requires { ⌜ SoundRoom (now room) × ((L : Ledger) → IsRoom (now room) L → Takes (L .T) (now bytes)) ⌝ }
-    ensures { λ _. ⌜ ((L : Ledger) → IsRoom (now (room .entry)) L → (s : Snapshot) → snapshotOfBytes (now (bytes .entry)) ≡ some s → Holds (restored L s) (now (room .entry)) (now (room .exit))) ⌝ }
+    requires { ⌜ SoundRoom (now room) × (OfRoom (now room) (λ L. Takes (L .T) (now bytes))) ⌝ }
+    ensures { λ _. ⌜ OfRoom (now (room .entry)) (λ L. OfSnapshot (now (bytes .entry)) (λ s. Holds (restored L s) (now (room .entry)) (now (room .exit)))) ⌝ }
 {
     let sizes = records::load_sizes(room);
     soundness::make(room, sizes.names, sizes.reservations);

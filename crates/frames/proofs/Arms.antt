@@ -13,10 +13,10 @@ use Rattle.rules.specs.SnapshotsMigrationCertificates.{Snapshot, snapshotOfByte
 use Rattle.rules.specs.Frames.{Operation, onAccount, takeSnapshot, certifyLedger, proveConservation, restoreFrom, recoverFrom, judge, migrateTo, certify, answer, answerOr23}
 use Rattle.rules.proofs.Tests.{by-option}
 use Rattle.snapshot_reader.specs.Standing.{IsSnapshot}
-use Rattle.operations.specs.declared.Frame.{Frame}
-use Rattle.operations.specs.declared.Frame.the-variants as frame
-use Rattle.operations.specs.Operations.{supplied, operationIn, StandsFrom, PartsWithin}
-use Rattle.operations.proofs.Frame.{enum}
+use Rattle.frame_reader.specs.declared.Frame.{Frame}
+use Rattle.frame_reader.specs.declared.Frame.the-variants as frame
+use Rattle.frame_reader.specs.Operations.{supplied, operationIn, StandsFrom, PartsWithin}
+use Rattle.frame_reader.proofs.Frame.{enum}
 use Rattle.answer_bytes.specs.Writing.{WritesReply}
 use Rattle.answer_bytes.proofs.Arms.{matched}
 use Rattle.frames.specs.Answering.{IsLent, AnswersOperation, roomFor}

@@ -11,7 +11,7 @@ use Rattle.rules.specs.SnapshotsMigrationCertificates.{bytesOf}
 use Rattle.rules.specs.Frames.{valueBytes, replyBytes}
 use Rattle.numbers.specs.LittleEndian.{littleBytes}
 use Rattle.records.specs.Rows.{row, put}
-use Rattle.row_writer.proofs.Appending.{flatMap-one}
+use Rattle.rules.proofs.Lists.{flatMap-one}
 use Rattle.answer_bytes.specs.Writing.{WritesReply}
 
 reply-is : (bs : List ℕ) → replyBytes (done (SnapshotBytes bs ∷ [])) ≡ 0 ∷ bs

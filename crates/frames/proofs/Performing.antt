@@ -7,13 +7,13 @@ use native.Mathlib.Omega.{arith}
 use Rattle.rules.specs.RoomAndSoundLedger.{Ledger}
 use Rattle.rules.specs.AnswerNumbers.{Reply, Outcome, Answered, sound, onLent}
 use Rattle.rules.specs.Frames.{Operation, answer}
-use Rattle.contents.specs.Room.{Performs}
+use Rattle.room.specs.Room.{Performed}
 use Rattle.answer_bytes.specs.Writing.{WritesReply}
 use Rattle.frames.specs.Answering.{IsLent, AnswersOperation}
 
 -- the equation is refl where `answer` is unfolded; `untouched` is of memory that is no room, and what is lent here is sound
 pub performed : {f : Ledger → Outcome} {L : Ledger} {r : Reply} {x : Operation} {before after output-before output-after : List ℕ} {written : ℕ}
-    → Performs f L r after
+    → Performed f L r after
     → WritesReply r output-before output-after written
     → answer (sound L) x ≡ onLent (sound L) f
     → AnswersOperation (some x) (sound L) before after output-before output-after written

@@ -7,18 +7,22 @@ use Prim.Native.Nat.{ℕ}
 use Rattle.rules.specs.RoomAndSoundLedger.{Ledger}
 use Rattle.rules.specs.AnswerNumbers.{Lent, sound, unsound}
 use Rattle.rules.specs.Frames.{Operation, onAccount, takeSnapshot, certifyLedger, proveConservation, restoreFrom, recoverFrom, judge, migrateTo, certify, answerOr23}
-use Rattle.contents.specs.Room.{IsRoom, SoundRoom}
+use Rattle.room.specs.Room.{IsRoom, OfRoom, SoundRoom}
 use Rattle.answer_bytes.specs.Writing.{WritesReply}
 
 -- memory that is what is lent: the room of a sound ledger, or of none
 abbrev pub IsLent : List ℕ → Lent → Type 0
 IsLent memory (sound L) = IsRoom memory L
-IsLent memory unsound = (L : Ledger) → IsRoom memory L → ⊥
+IsLent memory unsound = OfRoom memory (λ L. ⊥)
+
+-- what holds of whatever the memory is lent as
+abbrev pub OfLent : List ℕ → (Lent → Type 0) → Type 0
+OfLent memory P = (l : Lent) → IsLent memory l → P l
 
 -- what an earlier check has found of the memory
 abbrev pub Known : Bool → List ℕ → Type 0
 Known true memory = SoundRoom memory
-Known false memory = (L : Ledger) → IsRoom memory L → ⊥
+Known false memory = IsLent memory unsound
 
 -- the answer's bytes stand at the front of the output; the memory is what is lent after the operation, and no byte of it has changed where it is no room
 pub record AnswersOperation (o : Option Operation) (l : Lent) (before after output-before output-after : List ℕ) (written : ℕ) : Type 0 where

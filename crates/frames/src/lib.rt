@@ -1,7 +1,7 @@
 // A frame's bytes to its answer's bytes. What is known of the memory is handed in: a batch asks once whether it is the room of a sound ledger.
 use numbers::Identifier;
 use numbers::Microcents;
-use operations::Frame;
+use frame_reader::Frame;
 use snapshot_writer::Snapshotted;
 use validation::Verdict;
 ghost use mathlib.Core.Path.{_≡_};
@@ -9,20 +9,19 @@ ghost use mathlib.Core.Option.{some};
 ghost use mathlib.Core.List.{List};
 ghost use Prim.Native.Nat.{ℕ, _≤_};
 ghost use lib.ListN.{length};
-ghost use Rattle.rules.specs.RoomAndSoundLedger.{Ledger};
-ghost use Rattle.rules.specs.AnswerNumbers.{Lent, sound, unsound};
+ghost use Rattle.rules.specs.AnswerNumbers.{sound, unsound};
 ghost use Rattle.rules.specs.AccountRules.{ensure, topUp, limit, reserve, commit, release};
-ghost use Rattle.rules.specs.SnapshotsMigrationCertificates.{Snapshot, snapshotOfBytes, migrate, status, certificateOfSnapshot};
+ghost use Rattle.rules.specs.SnapshotsMigrationCertificates.{Snapshot, migrate, status, certificateOfSnapshot};
 ghost use Rattle.rules.specs.Frames.{onAccount, takeSnapshot, certifyLedger, proveConservation, restoreFrom, recoverFrom, longestSnapshot, answerOr23};
-ghost use Rattle.snapshot_reader.specs.Standing.{IsSnapshot};
-ghost use Rattle.operations.specs.Operations.{operationIn, PartsWithin};
+ghost use Rattle.snapshot_reader.specs.Standing.{IsSnapshot, OfSnapshot};
+ghost use Rattle.frame_reader.specs.Operations.{operationIn, PartsWithin};
 ghost use Rattle.answer_bytes.specs.Writing.{WritesReply};
-ghost use Rattle.contents.specs.Room.{SoundRoom, IsRoom};
-ghost use Rattle.frames.specs.Answering.{IsLent, Known, AnswersOperation, roomFor};
+ghost use Rattle.room.specs.Room.{SoundRoom, OfRoom};
+ghost use Rattle.frames.specs.Answering.{Known, AnswersOperation, roomFor, OfLent};
 
 fn ensure(room: &mut [u8], name: &[u8], amount: Microcents, output: &mut [u8]) -> usize
     requires { ⌜ SoundRoom (now room) × (51 ≤ length (now output)) ⌝ }
-    ensures { λ r. ⌜ ((L : Ledger) → IsRoom (now (room .entry)) L → AnswersOperation (some (onAccount (ensure (now (name .entry)) (amount .0)))) (sound L) (now (room .entry)) (now (room .exit)) (now (output .entry)) (now (output .exit)) r) ⌝ }
+    ensures { λ r. ⌜ OfRoom (now (room .entry)) (λ L. AnswersOperation (some (onAccount (ensure (now (name .entry)) (amount .0)))) (sound L) (now (room .entry)) (now (room .exit)) (now (output .entry)) (now (output .exit)) r) ⌝ }
 {
     let answer = accounts::ensure(room, name, amount);
     account_answers::write_ensured(output, answer)
@@ -30,7 +29,7 @@ fn ensure(room: &mut [u8], name: &[u8], amount: Microcents, output: &mut [u8]) -
 
 fn top_up(room: &mut [u8], name: &[u8], amount: Microcents, output: &mut [u8]) -> usize
     requires { ⌜ SoundRoom (now room) × (51 ≤ length (now output)) ⌝ }
-    ensures { λ r. ⌜ ((L : Ledger) → IsRoom (now (room .entry)) L → AnswersOperation (some (onAccount (topUp (now (name .entry)) (amount .0)))) (sound L) (now (room .entry)) (now (room .exit)) (now (output .entry)) (now (output .exit)) r) ⌝ }
+    ensures { λ r. ⌜ OfRoom (now (room .entry)) (λ L. AnswersOperation (some (onAccount (topUp (now (name .entry)) (amount .0)))) (sound L) (now (room .entry)) (now (room .exit)) (now (output .entry)) (now (output .exit)) r) ⌝ }
 {
     let answer = accounts::top_up(room, name, amount);
     account_answers::write_topped_up(output, answer)
@@ -38,7 +37,7 @@ fn top_up(room: &mut [u8], name: &[u8], amount: Microcents, output: &mut [u8]) -
 
 fn limit(room: &mut [u8], name: &[u8], amount: Microcents, output: &mut [u8]) -> usize
     requires { ⌜ SoundRoom (now room) × (51 ≤ length (now output)) ⌝ }
-    ensures { λ r. ⌜ ((L : Ledger) → IsRoom (now (room .entry)) L → AnswersOperation (some (onAccount (limit (now (name .entry)) (amount .0)))) (sound L) (now (room .entry)) (now (room .exit)) (now (output .entry)) (now (output .exit)) r) ⌝ }
+    ensures { λ r. ⌜ OfRoom (now (room .entry)) (λ L. AnswersOperation (some (onAccount (limit (now (name .entry)) (amount .0)))) (sound L) (now (room .entry)) (now (room .exit)) (now (output .entry)) (now (output .exit)) r) ⌝ }
 {
     let answer = accounts::limit(room, name, amount);
     account_answers::write_limited(output, answer)
@@ -46,7 +45,7 @@ fn limit(room: &mut [u8], name: &[u8], amount: Microcents, output: &mut [u8]) ->
 
 fn reserve(room: &mut [u8], name: &[u8], cost: Microcents, output: &mut [u8]) -> usize
     requires { ⌜ SoundRoom (now room) × (51 ≤ length (now output)) ⌝ }
-    ensures { λ r. ⌜ ((L : Ledger) → IsRoom (now (room .entry)) L → AnswersOperation (some (onAccount (reserve (now (name .entry)) (cost .0)))) (sound L) (now (room .entry)) (now (room .exit)) (now (output .entry)) (now (output .exit)) r) ⌝ }
+    ensures { λ r. ⌜ OfRoom (now (room .entry)) (λ L. AnswersOperation (some (onAccount (reserve (now (name .entry)) (cost .0)))) (sound L) (now (room .entry)) (now (room .exit)) (now (output .entry)) (now (output .exit)) r) ⌝ }
 {
     let answer = reservations::reserve(room, name, cost);
     account_answers::write_reserved(output, answer)
@@ -54,7 +53,7 @@ fn reserve(room: &mut [u8], name: &[u8], cost: Microcents, output: &mut [u8]) ->
 
 fn commit(room: &mut [u8], id: Identifier, actual: Microcents, output: &mut [u8]) -> usize
     requires { ⌜ SoundRoom (now room) × (51 ≤ length (now output)) ⌝ }
-    ensures { λ r. ⌜ ((L : Ledger) → IsRoom (now (room .entry)) L → AnswersOperation (some (onAccount (commit (id .0) (actual .0)))) (sound L) (now (room .entry)) (now (room .exit)) (now (output .entry)) (now (output .exit)) r) ⌝ }
+    ensures { λ r. ⌜ OfRoom (now (room .entry)) (λ L. AnswersOperation (some (onAccount (commit (id .0) (actual .0)))) (sound L) (now (room .entry)) (now (room .exit)) (now (output .entry)) (now (output .exit)) r) ⌝ }
 {
     let answer = reservations::commit(room, id, actual);
     account_answers::write_committed(output, answer)
@@ -62,7 +61,7 @@ fn commit(room: &mut [u8], id: Identifier, actual: Microcents, output: &mut [u8]
 
 fn release(room: &mut [u8], id: Identifier, output: &mut [u8]) -> usize
     requires { ⌜ SoundRoom (now room) × (51 ≤ length (now output)) ⌝ }
-    ensures { λ r. ⌜ ((L : Ledger) → IsRoom (now (room .entry)) L → AnswersOperation (some (onAccount (release (id .0)))) (sound L) (now (room .entry)) (now (room .exit)) (now (output .entry)) (now (output .exit)) r) ⌝ }
+    ensures { λ r. ⌜ OfRoom (now (room .entry)) (λ L. AnswersOperation (some (onAccount (release (id .0)))) (sound L) (now (room .entry)) (now (room .exit)) (now (output .entry)) (now (output .exit)) r) ⌝ }
 {
     let answer = reservations::release(room, id);
     account_answers::write_released(output, answer)
@@ -71,7 +70,7 @@ fn release(room: &mut [u8], id: Identifier, output: &mut [u8]) -> usize
 // The snapshot is written behind the answer's number, where it stays.
 fn snapshot(room: &mut [u8], output: &mut [u8]) -> usize
     requires { ⌜ SoundRoom (now room) × (14611 ≤ length (now output)) ⌝ }
-    ensures { λ r. ⌜ ((L : Ledger) → IsRoom (now (room .entry)) L → AnswersOperation (some takeSnapshot) (sound L) (now (room .entry)) (now (room .exit)) (now (output .entry)) (now (output .exit)) r) ⌝ }
+    ensures { λ r. ⌜ OfRoom (now (room .entry)) (λ L. AnswersOperation (some takeSnapshot) (sound L) (now (room .entry)) (now (room .exit)) (now (output .entry)) (now (output .exit)) r) ⌝ }
 {
     let Snapshotted::Written(size) = snapshot_writer::snapshot(room, &mut output[1..]) else {
         return answer_bytes::write_number(output, 9);
@@ -82,7 +81,7 @@ fn snapshot(room: &mut [u8], output: &mut [u8]) -> usize
 
 fn restore(room: &mut [u8], bytes: &[u8], output: &mut [u8]) -> usize
     requires { ⌜ SoundRoom (now room) × IsSnapshot (now bytes) × (51 ≤ length (now output)) ⌝ }
-    ensures { λ r. ⌜ ((L : Ledger) → IsRoom (now (room .entry)) L → (s : Snapshot) → snapshotOfBytes (now (bytes .entry)) ≡ some s → AnswersOperation (some (restoreFrom s)) (sound L) (now (room .entry)) (now (room .exit)) (now (output .entry)) (now (output .exit)) r) ⌝ }
+    ensures { λ r. ⌜ OfRoom (now (room .entry)) (λ L. OfSnapshot (now (bytes .entry)) (λ s. AnswersOperation (some (restoreFrom s)) (sound L) (now (room .entry)) (now (room .exit)) (now (output .entry)) (now (output .exit)) r)) ⌝ }
 {
     let judged = restoring::restore(room, bytes);
     snapshot_answers::write_judged(output, judged)
@@ -90,7 +89,7 @@ fn restore(room: &mut [u8], bytes: &[u8], output: &mut [u8]) -> usize
 
 fn recovery_restore(room: &mut [u8], bytes: &[u8], output: &mut [u8]) -> usize
     requires { ⌜ SoundRoom (now room) × IsSnapshot (now bytes) × (51 ≤ length (now output)) ⌝ }
-    ensures { λ r. ⌜ ((L : Ledger) → IsRoom (now (room .entry)) L → (s : Snapshot) → snapshotOfBytes (now (bytes .entry)) ≡ some s → AnswersOperation (some (recoverFrom s)) (sound L) (now (room .entry)) (now (room .exit)) (now (output .entry)) (now (output .exit)) r) ⌝ }
+    ensures { λ r. ⌜ OfRoom (now (room .entry)) (λ L. OfSnapshot (now (bytes .entry)) (λ s. AnswersOperation (some (recoverFrom s)) (sound L) (now (room .entry)) (now (room .exit)) (now (output .entry)) (now (output .exit)) r)) ⌝ }
 {
     let judged = restoring::recovery_restore(room, bytes);
     snapshot_answers::write_judged(output, judged)
@@ -98,7 +97,7 @@ fn recovery_restore(room: &mut [u8], bytes: &[u8], output: &mut [u8]) -> usize
 
 fn certificate(room: &mut [u8], output: &mut [u8]) -> usize
     requires { ⌜ SoundRoom (now room) × (51 ≤ length (now output)) ⌝ }
-    ensures { λ r. ⌜ ((L : Ledger) → IsRoom (now (room .entry)) L → AnswersOperation (some certifyLedger) (sound L) (now (room .entry)) (now (room .exit)) (now (output .entry)) (now (output .exit)) r) ⌝ }
+    ensures { λ r. ⌜ OfRoom (now (room .entry)) (λ L. AnswersOperation (some certifyLedger) (sound L) (now (room .entry)) (now (room .exit)) (now (output .entry)) (now (output .exit)) r) ⌝ }
 {
     let certified = certificates::of_ledger(room);
     snapshot_answers::write_certified(output, certified)
@@ -106,7 +105,7 @@ fn certificate(room: &mut [u8], output: &mut [u8]) -> usize
 
 fn conservation_proof(room: &mut [u8], output: &mut [u8]) -> usize
     requires { ⌜ SoundRoom (now room) × (51 ≤ length (now output)) ⌝ }
-    ensures { λ r. ⌜ ((L : Ledger) → IsRoom (now (room .entry)) L → AnswersOperation (some proveConservation) (sound L) (now (room .entry)) (now (room .exit)) (now (output .entry)) (now (output .exit)) r) ⌝ }
+    ensures { λ r. ⌜ OfRoom (now (room .entry)) (λ L. AnswersOperation (some proveConservation) (sound L) (now (room .entry)) (now (room .exit)) (now (output .entry)) (now (output .exit)) r) ⌝ }
 {
     let proved = certificates::prove(room);
     snapshot_answers::write_proved(output, proved)
@@ -115,7 +114,7 @@ fn conservation_proof(room: &mut [u8], output: &mut [u8]) -> usize
 // "migration and judging a supplied snapshot take none": no ledger is lent from here on.
 fn migrate(bytes: &[u8], fence: u64, output: &mut [u8]) -> usize
     requires { ⌜ IsSnapshot (now bytes) × (14611 ≤ length (now output)) ⌝ }
-    ensures { λ r. ⌜ ((s : Snapshot) → snapshotOfBytes (now (bytes .entry)) ≡ some s → WritesReply (migrate longestSnapshot fence s) (now (output .entry)) (now (output .exit)) r) ⌝ }
+    ensures { λ r. ⌜ OfSnapshot (now (bytes .entry)) (λ s. WritesReply (migrate longestSnapshot fence s) (now (output .entry)) (now (output .exit)) r) ⌝ }
 {
     let judged = migration::migrate(bytes, fence, &mut output[1..]);
     let verdict = judged.verdict;
@@ -128,7 +127,7 @@ fn migrate(bytes: &[u8], fence: u64, output: &mut [u8]) -> usize
 
 fn certificate_of_snapshot(bytes: &[u8], since: Microcents, output: &mut [u8]) -> usize
     requires { ⌜ IsSnapshot (now bytes) × (51 ≤ length (now output)) ⌝ }
-    ensures { λ r. ⌜ ((s : Snapshot) → snapshotOfBytes (now (bytes .entry)) ≡ some s → WritesReply (certificateOfSnapshot (since .0) s) (now (output .entry)) (now (output .exit)) r) ⌝ }
+    ensures { λ r. ⌜ OfSnapshot (now (bytes .entry)) (λ s. WritesReply (certificateOfSnapshot (since .0) s) (now (output .entry)) (now (output .exit)) r) ⌝ }
 {
     let certified = certificates::of_supplied(bytes, since);
     snapshot_answers::write_certified(output, certified)
@@ -136,7 +135,7 @@ fn certificate_of_snapshot(bytes: &[u8], since: Microcents, output: &mut [u8]) -
 
 fn status(bytes: &[u8], output: &mut [u8]) -> usize
     requires { ⌜ IsSnapshot (now bytes) × (51 ≤ length (now output)) ⌝ }
-    ensures { λ r. ⌜ ((s : Snapshot) → snapshotOfBytes (now (bytes .entry)) ≡ some s → WritesReply (status s) (now (output .entry)) (now (output .exit)) r) ⌝ }
+    ensures { λ r. ⌜ OfSnapshot (now (bytes .entry)) (λ s. WritesReply (status s) (now (output .entry)) (now (output .exit)) r) ⌝ }
 {
     let judged = validation::status(bytes);
     snapshot_answers::write_judged(output, judged)
@@ -170,7 +169,7 @@ fn without_ledger(bytes: &[u8], frame: Frame, output: &mut [u8]) -> usize
 // A frame on a ledger known to be sound.
 fn perform(room: &mut [u8], bytes: &[u8], frame: Frame, output: &mut [u8]) -> usize
     requires { ⌜ SoundRoom (now room) × PartsWithin (now bytes) frame × (roomFor (operationIn (now bytes) frame) ≤ length (now output)) ⌝ }
-    ensures { λ r. ⌜ ((L : Ledger) → IsRoom (now (room .entry)) L → AnswersOperation (operationIn (now (bytes .entry)) frame) (sound L) (now (room .entry)) (now (room .exit)) (now (output .entry)) (now (output .exit)) r) ⌝ }
+    ensures { λ r. ⌜ OfRoom (now (room .entry)) (λ L. AnswersOperation (operationIn (now (bytes .entry)) frame) (sound L) (now (room .entry)) (now (room .exit)) (now (output .entry)) (now (output .exit)) r) ⌝ }
 {
     match frame {
         Frame::Ensure(end, amount) => ensure(room, &bytes[2..end], amount, output),
@@ -191,7 +190,7 @@ fn perform(room: &mut [u8], bytes: &[u8], frame: Frame, output: &mut [u8]) -> us
 // A frame that was read from these bytes, on memory of which it is known whether it is the room of a sound ledger.
 pub fn answer(room: &mut [u8], known: bool, bytes: &[u8], frame: Frame, output: &mut [u8]) -> usize
     requires { ⌜ Known known (now room) × PartsWithin (now bytes) frame × (roomFor (operationIn (now bytes) frame) ≤ length (now output)) ⌝ }
-    ensures { λ r. ⌜ ((l : Lent) → IsLent (now (room .entry)) l → AnswersOperation (operationIn (now (bytes .entry)) frame) l (now (room .entry)) (now (room .exit)) (now (output .entry)) (now (output .exit)) r) ⌝ }
+    ensures { λ r. ⌜ OfLent (now (room .entry)) (λ l. AnswersOperation (operationIn (now (bytes .entry)) frame) l (now (room .entry)) (now (room .exit)) (now (output .entry)) (now (output .exit)) r) ⌝ }
 {
     if known {
         return perform(room, bytes, frame, output);

@@ -9,7 +9,7 @@ use lib.ListN.{length, getD, take, drop, set, length-append, take-append-drop}
 use lib.Seq.{drop-cons, drop-drop, drop-append-add, drop-append-le, set-at, take-at, length-take-le}
 use Rattle.rules.specs.AnswerNumbers.{Lent, sound, unsound, Reply}
 use Rattle.rules.specs.Frames.{Operation, onAccount, takeSnapshot, certifyLedger, proveConservation, restoreFrom, recoverFrom, judge, migrateTo, certify, lineFeed, replyBytes, lineOfBytes, answerLine, answerOr23}
-use Rattle.contents.specs.Room.{SoundRoom}
+use Rattle.room.specs.Room.{SoundRoom}
 use Rattle.soundness.specs.Facts.{Decides}
 use Rattle.answer_bytes.specs.Writing.{WritesReply}
 use Rattle.frames.specs.Answering.{IsLent, Known, AnswersOperation, roomFor}

@@ -13,8 +13,8 @@ use Rattle.rules.specs.RoomAndSoundLedger.{IsByte}
 use Rattle.rules.specs.AnswerNumbers.{Lent, sound, unsound}
 use Rattle.rules.specs.Frames.{Operation, lineFeed, answerLine, answerOr23, answerToLine, operationOfLine, answersToLines}
 use Rattle.rules.proofs.EveryLine.{lentAfter}
-use Rattle.contents.specs.Room.{SoundRoom}
-use Rattle.contents.proofs.Decoding.{canonical}
+use Rattle.room.specs.Room.{SoundRoom}
+use Rattle.room.proofs.Decoding.{canonical}
 use Rattle.soundness.specs.Facts.{Decides}
 use Rattle.frames.specs.Answering.{IsLent}
 use Rattle.lines.specs.declared.LineAnswer.{LineAnswer}

@@ -11,7 +11,7 @@ use Rattle.rules.specs.AccountRules.{operate}
 use Rattle.rules.specs.SnapshotsMigrationCertificates.{snapshot, restore, recoveryRestore, certificateOfLedger, conservationProof}
 use Rattle.rules.specs.Frames.{Operation, onAccount, takeSnapshot, certifyLedger, proveConservation, restoreFrom, recoverFrom, judge, migrateTo, certify, longestSnapshot, answer, answerOr23, answerToLine, operationOfLine}
 use Rattle.rules.proofs.EveryLine.{lentAfter}
-use Rattle.contents.specs.Room.{SoundRoom}
+use Rattle.room.specs.Room.{SoundRoom}
 use Rattle.frames.specs.Answering.{IsLent, Known}
 use Rattle.lines.specs.Batching.{LineAnswered}
 use Rattle.lines.specs.declared.LineAnswer.the-variants as answered

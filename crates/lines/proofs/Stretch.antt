@@ -13,7 +13,7 @@ use Rattle.rules.specs.AnswerNumbers.{Lent, unsound}
 use Rattle.rules.specs.Frames.{Operation, lineFeed, answerLine, answerOr23, answerToLine, operationOfLine, answersToLines}
 use Rattle.rules.proofs.EveryLine.{lentAfter, answers-append}
 use Rattle.records.specs.Rows.{row, put}
-use Rattle.row_writer.proofs.Appending.{two-halves}
+use Rattle.records.proofs.Rows.{two-halves}
 use Rattle.frames.specs.Answering.{IsLent}
 use Rattle.lines.specs.Batching.{lineRoom, IsLine, FirstLine, withFeeds, AnswersLine, HadRoom, NextTooLong, NextAnswered, Batches}
 use Rattle.lines.proofs.LineFound.{all-end, feed-behind}

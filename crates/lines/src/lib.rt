@@ -5,9 +5,8 @@ ghost use mathlib.Core.Option.{none};
 ghost use mathlib.Core.List.{List, _∷_, _++_};
 ghost use Prim.Native.Nat.{ℕ, _+_, _≤_, _<_};
 ghost use lib.ListN.{length, take, drop};
-ghost use Rattle.rules.specs.AnswerNumbers.{Lent};
 ghost use Rattle.rules.specs.Frames.{lineFeed, lineOfBytes, operationOf, operationOfLine};
-ghost use Rattle.frames.specs.Answering.{IsLent, Known};
+ghost use Rattle.frames.specs.Answering.{Known, OfLent};
 ghost use Rattle.lines.specs.Batching.{LineAnswered, FirstFeed, nextOf, NextFound, NextAnswered, Batches};
 
 // The longest line is of 29,238 characters, and so of 14,619 bytes.
@@ -51,9 +50,9 @@ fn finish(output: &mut [u8], size: usize) -> usize
 // A frame's bytes. Only the room for its longest answer is lent on, so that the answer is no longer.
 fn answer_frame(room: &mut [u8], known: bool, bytes: &[u8], output: &mut [u8]) -> LineAnswer
     requires { ⌜ Known known (now room) ⌝ }
-    ensures { λ r. ⌜ ((l : Lent) → IsLent (now (room .entry)) l → LineAnswered (operationOf (now (bytes .entry))) l (now (room .entry)) (now (room .exit)) (now (output .entry)) (now (output .exit)) r) ⌝ }
+    ensures { λ r. ⌜ OfLent (now (room .entry)) (λ l. LineAnswered (operationOf (now (bytes .entry))) l (now (room .entry)) (now (room .exit)) (now (output .entry)) (now (output .exit)) r) ⌝ }
 {
-    let frame = operations::read(bytes);
+    let frame = frame_reader::read(bytes);
     let needed = frames::room_for(frame);
     if output.len() < needed + needed + 1 {
         return LineAnswer::OutputTooShort;
@@ -64,7 +63,7 @@ fn answer_frame(room: &mut [u8], known: bool, bytes: &[u8], output: &mut [u8]) -
 
 // "Empty, odd, .. or any character but 0-9 and a-f: 23"; "a longer one gets one 23"
 fn answer_no_frame(output: &mut [u8]) -> LineAnswer
-    ensures { λ r. ⌜ ((room : List ℕ) (l : Lent) → IsLent room l → LineAnswered none l room room (now (output .entry)) (now (output .exit)) r) ⌝ }
+    ensures { λ r. ⌜ ((room : List ℕ) → OfLent room (λ l. LineAnswered none l room room (now (output .entry)) (now (output .exit)) r)) ⌝ }
 {
     if output.len() < 103 {
         return LineAnswer::OutputTooShort;
@@ -82,7 +81,7 @@ pub fn answer_line(
     output: &mut [u8],
 ) -> LineAnswer
     requires { ⌜ Known known (now room) × (14619 ≤ length (now work)) ⌝ }
-    ensures { λ r. ⌜ ((l : Lent) → IsLent (now (room .entry)) l → LineAnswered (operationOfLine (now (line .entry))) l (now (room .entry)) (now (room .exit)) (now (output .entry)) (now (output .exit)) r) ⌝ }
+    ensures { λ r. ⌜ OfLent (now (room .entry)) (λ l. LineAnswered (operationOfLine (now (line .entry))) l (now (room .entry)) (now (room .exit)) (now (output .entry)) (now (output .exit)) r) ⌝ }
 {
     if LONGEST_LINE < line.len() {
         return answer_no_frame(output);
@@ -95,7 +94,7 @@ pub fn answer_line(
 
 // One line, for any memory, any characters and any output.
 pub fn answer(room: &mut [u8], line: &[u8], output: &mut [u8]) -> LineAnswer
-    ensures { λ r. ⌜ ((l : Lent) → IsLent (now (room .entry)) l → LineAnswered (operationOfLine (now (line .entry))) l (now (room .entry)) (now (room .exit)) (now (output .entry)) (now (output .exit)) r) ⌝ }
+    ensures { λ r. ⌜ OfLent (now (room .entry)) (λ l. LineAnswered (operationOfLine (now (line .entry))) l (now (room .entry)) (now (room .exit)) (now (output .entry)) (now (output .exit)) r) ⌝ }
 {
     let known = soundness::is_sound(room);
     let mut work = [0u8; 14619];
@@ -145,7 +144,7 @@ fn answer_next(
 ) -> Next
     requires { ⌜ Known known (now room) × (14619 ≤ length (now work)) ⌝ }
     ensures found { λ r. ⌜ NextFound (now (input .entry)) r ⌝ }
-    ensures answered { λ r. ⌜ ((l : Lent) → IsLent (now (room .entry)) l → NextAnswered l (now (input .entry)) (now (room .entry)) (now (room .exit)) (now (output .entry)) (now (output .exit)) r) ⌝ }
+    ensures answered { λ r. ⌜ OfLent (now (room .entry)) (λ l. NextAnswered l (now (input .entry)) (now (room .entry)) (now (room .exit)) (now (output .entry)) (now (output .exit)) r) ⌝ }
 {
     let limit = front_limit(input.len());
     let size = digits::front_bytes(&input[..limit], work);
@@ -168,7 +167,7 @@ fn answer_lines(
     output: &mut [u8],
 ) -> Progress
     requires { ⌜ Known known (now room) × (14619 ≤ length (now work)) ⌝ }
-    ensures batches { λ r. ⌜ ((l : Lent) → IsLent (now (room .entry)) l → Batches l (now (input .entry)) (now (room .entry)) (now (room .exit)) (now (output .entry)) (now (output .exit)) r) ⌝ }
+    ensures batches { λ r. ⌜ OfLent (now (room .entry)) (λ l. Batches l (now (input .entry)) (now (room .entry)) (now (room .exit)) (now (output .entry)) (now (output .exit)) r) ⌝ }
     ensures within { λ r. ⌜ (r .used ≤ length (now (input .entry))) × (r .written ≤ length (now (output .entry))) ⌝ }
 {
     let mut used = 0;
@@ -191,7 +190,7 @@ fn answer_lines(
 
 // A batch. Soundness is asked once, and one work room serves all lines.
 pub fn batch(room: &mut [u8], input: &[u8], output: &mut [u8]) -> Progress
-    ensures batches { λ r. ⌜ ((l : Lent) → IsLent (now (room .entry)) l → Batches l (now (input .entry)) (now (room .entry)) (now (room .exit)) (now (output .entry)) (now (output .exit)) r) ⌝ }
+    ensures batches { λ r. ⌜ OfLent (now (room .entry)) (λ l. Batches l (now (input .entry)) (now (room .entry)) (now (room .exit)) (now (output .entry)) (now (output .exit)) r) ⌝ }
     ensures within { λ r. ⌜ (r .used ≤ length (now (input .entry))) × (r .written ≤ length (now (output .entry))) ⌝ }
 {
     let known = soundness::is_sound(room);

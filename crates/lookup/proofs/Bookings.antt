@@ -11,9 +11,9 @@ use lib.ListN.{length, getD}
 use Rattle.rules.specs.Lists.{All}
 use Rattle.rules.proofs.Lists.{all-map}
 use Rattle.records.specs.declared.Booking.{Booking}
-use Rattle.contents.specs.declared.Found.{Found}
-use Rattle.contents.specs.declared.Found.the-variants.{At, Absent}
-use Rattle.contents.specs.Contents.{bookingOfId, emptyBooking}
+use Rattle.room.specs.declared.Found.{Found}
+use Rattle.room.specs.declared.Found.the-variants.{At, Absent}
+use Rattle.room.specs.Contents.{bookingOfId, emptyBooking}
 use Rattle.lookup.proofs.FirstPlace.{firstPlace, FirstIs, first-is, first-only}
 use Rattle.lookup.proofs.Halving.{Divides}
 

@@ -8,9 +8,9 @@ use native.Mathlib.Omega.{arith}
 use lib.ListN.{length, getD}
 use Rattle.rules.specs.Lists.{All}
 use Rattle.rules.proofs.Tests.{by-test}
-use Rattle.contents.specs.declared.Found.{Found}
-use Rattle.contents.specs.declared.Found.the-variants.{At, Absent}
-use Rattle.contents.specs.Contents.{later}
+use Rattle.room.specs.declared.Found.{Found}
+use Rattle.room.specs.declared.Found.the-variants.{At, Absent}
+use Rattle.room.specs.Contents.{later}
 
 module _ {A : Type 0} (test : A → Bool) where
   abbrev pub firstPlace : List A → Found

@@ -10,8 +10,8 @@ use native.Mathlib.Omega.{arith}
 use borrow.Author.Count.{below-none, below-more}
 use lib.ListN.{length, getD}
 use Rattle.rules.specs.Lists.{Pairwise}
-use Rattle.contents.specs.declared.Found.the-variants.{At, Absent}
-use Rattle.lookup.proofs.ByIndex.{all-of-reads, pairwise-read}
+use Rattle.room.specs.declared.Found.the-variants.{At, Absent}
+use Rattle.rules.proofs.ByIndex.{all-of-reads, pairwise-read}
 use Rattle.lookup.proofs.FirstPlace.{FirstIs}
 
 -- what an order and a test need of what comes before and after the one sought

@@ -14,9 +14,9 @@ use Rattle.rules.proofs.Lists.{all-map}
 use Rattle.rules.proofs.Names.{same-true, same-false}
 use Rattle.names.specs.Names.{spelled}
 use Rattle.records.specs.declared.Place.{Place}
-use Rattle.contents.specs.declared.Found.{Found}
-use Rattle.contents.specs.declared.Found.the-variants.{At, Absent}
-use Rattle.contents.specs.Contents.{goesBehind, placeOfName, placeForName, emptyPlace}
+use Rattle.room.specs.declared.Found.{Found}
+use Rattle.room.specs.declared.Found.the-variants.{At, Absent}
+use Rattle.room.specs.Contents.{goesBehind, placeOfName, placeForName, emptyPlace}
 use Rattle.lookup.proofs.FirstPlace.{firstPlace, FirstIs, first-is, first-only}
 
 pub eq-not-lt : Ordering·eq ≢ Ordering·lt

@@ -1,5 +1,5 @@
 // Look-up in the tables of a room: a name's place, the place for a new name, a live booking by its id.
-use contents::Found;
+use room::Found;
 use names::Order;
 ghost use mathlib.Core.Path.{_≡_};
 ghost use Prim.Native.Nat.{_+_, _*_, _≤_, _<_};
@@ -8,7 +8,7 @@ ghost use Rattle.rules.specs.Lists.{All, Pairwise};
 ghost use Rattle.names.specs.Names.{spelled};
 ghost use Rattle.records.specs.Rows.{row};
 ghost use Rattle.records.specs.Records.{placeOf};
-ghost use Rattle.contents.specs.Contents.{contentsOf, Sized, usedPlaces, liveBookings, placeOfName, placeForName, bookingOfId};
+ghost use Rattle.room.specs.Contents.{contentsOf, Sized, usedPlaces, liveBookings, placeOfName, placeForName, bookingOfId};
 
 // The name at place i where it stands in the room: its length, and after that its bytes.
 fn name_at(room: &[u8], i: usize) -> &[u8]

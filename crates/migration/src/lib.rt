@@ -3,12 +3,12 @@ use validation::Judged;
 use validation::Verdict;
 ghost use mathlib.Core.Path.{_≡_};
 ghost use mathlib.Core.List.{_++_};
-ghost use mathlib.Core.Option.{none, some};
+ghost use mathlib.Core.Option.{none};
 ghost use Prim.Native.Nat.{_≤_};
 ghost use lib.ListN.{length, drop};
 ghost use Rattle.rules.specs.RoomAndSoundLedger.{M};
-ghost use Rattle.rules.specs.SnapshotsMigrationCertificates.{Snapshot, bytesOf, snapshotOfBytes, replyOr, migrate};
-ghost use Rattle.snapshot_reader.specs.Standing.{IsSnapshot};
+ghost use Rattle.rules.specs.SnapshotsMigrationCertificates.{bytesOf, replyOr, migrate};
+ghost use Rattle.snapshot_reader.specs.Standing.{IsSnapshot, OfSnapshot};
 ghost use Rattle.validation.specs.Judgement.{refusalIn};
 ghost use Rattle.snapshot_writer.specs.Output.{outputAfter};
 ghost use Rattle.migration.specs.Migrated.{migratedTo, migratedReply};
@@ -18,7 +18,7 @@ const M: u64 = 9223372036854775807;
 // 19; "bit 63 set gives 16; fence 0 or above M gives 17; validation"; 22 last.
 fn refusal(bytes: &[u8], fence: u64, size: usize) -> Judged
     requires { ⌜ IsSnapshot (now bytes) ⌝ }
-    ensures answer { λ r. ⌜ ((s : Snapshot) → snapshotOfBytes (now (bytes .entry)) ≡ some s → replyOr (refusalIn r) (migratedTo fence s) ≡ migrate size fence s) ⌝ }
+    ensures answer { λ r. ⌜ OfSnapshot (now (bytes .entry)) (λ s. replyOr (refusalIn r) (migratedTo fence s) ≡ migrate size fence s) ⌝ }
     ensures room { λ r. ⌜ (refusalIn r ≡ none → (fence ≤ M) × (length (now (bytes .entry)) ≤ size)) ⌝ }
     ensures short { λ r. ⌜ r .name .length ≤ 24 ⌝ }
 {
@@ -60,7 +60,7 @@ fn write_migrated(bytes: &[u8], version: u64, output: &mut [u8])
 
 pub fn migrate(bytes: &[u8], fence: u64, output: &mut [u8]) -> Judged
     requires { ⌜ IsSnapshot (now bytes) ⌝ }
-    ensures answer { λ r. ⌜ ((s : Snapshot) → snapshotOfBytes (now (bytes .entry)) ≡ some s → migratedReply (length (now (bytes .entry))) (now (output .exit)) r ≡ migrate (length (now (output .entry))) fence s) ⌝ }
+    ensures answer { λ r. ⌜ OfSnapshot (now (bytes .entry)) (λ s. migratedReply (length (now (bytes .entry))) (now (output .exit)) r ≡ migrate (length (now (output .entry))) fence s) ⌝ }
     ensures output { λ r. ⌜ now (output .exit) ≡ outputAfter (migratedReply (length (now (bytes .entry))) (now (output .exit)) r) (now (output .entry)) ⌝ }
     ensures short { λ r. ⌜ r .name .length ≤ 24 ⌝ }
 {

@@ -1,8 +1,9 @@
 // Names: compared by their bytes, and kept by value.
 ghost use mathlib.Core.Path.{_≡_};
-ghost use Prim.Native.Nat.{_≤_};
+ghost use Prim.Native.Nat.{_+_, _≤_};
 ghost use lib.ListN.{length};
 ghost use Rattle.rules.specs.RoomAndSoundLedger.{order, same};
+ghost use Rattle.rules.specs.SnapshotsMigrationCertificates.{nameBytes};
 ghost use Rattle.names.specs.Names.{orderingOf, spelled, stored};
 
 pub enum Order {
@@ -82,5 +83,20 @@ pub fn name_of(part: &[u8]) -> Name
     Name {
         length: part.len() as u8,
         bytes,
+    }
+}
+
+// A name as a snapshot row and an answer have it: its length, and its bytes behind that.
+pub fn write_name(part: &mut [u8], name: Name)
+    requires { ⌜ (length (now part) ≡ 1 + name .length) × (name .length ≤ 24) ⌝ }
+    ensures { λ _. ⌜ now (part .exit) ≡ nameBytes (spelled name) ⌝ }
+{
+    let end = name.length as usize;
+    let bytes = name.bytes;
+    part[0] = name.length;
+    let mut i = 0;
+    while i < end {
+        part[i + 1] = bytes[i];
+        i += 1;
     }
 }

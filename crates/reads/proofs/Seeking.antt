@@ -18,14 +18,14 @@ use Rattle.moves.specs.Moves.{accountOf, kept, keptSeat, SeatSound}
 use Rattle.moves.specs.declared.Seat.{Seat}
 use Rattle.moves.proofs.Cases.{accountIn}
 use Rattle.records.specs.declared.Place.{Place}
-use Rattle.contents.specs.Contents.{contentsOf, Sized, usedPlaces, placeOfName}
-use Rattle.contents.specs.Room.{IsRoom, SoundRoom}
-use Rattle.contents.specs.Seats.{FoundIn, seatFound}
-use Rattle.contents.specs.declared.Found.{Found}
-use Rattle.contents.specs.declared.Found.the-variants.{At, Absent}
-use Rattle.contents.proofs.Seating.{seat-found, kept-account, kept-limit, seat-sound}
+use Rattle.room.specs.Contents.{contentsOf, Sized, usedPlaces, placeOfName}
+use Rattle.room.specs.Room.{IsRoom, SoundRoom}
+use Rattle.room.specs.Seats.{FoundIn, seatFound}
+use Rattle.room.specs.declared.Found.{Found}
+use Rattle.room.specs.declared.Found.the-variants.{At, Absent}
+use Rattle.room.proofs.Seating.{seat-found, kept-account, kept-limit, seat-sound}
 use Rattle.lookup.proofs.Places.{name-found, noPlace}
-use Rattle.lookup.proofs.SoundRoom.{places-are, sized, names-short}
+use Rattle.room.proofs.SoundRoom.{places-are, sized, names-short}
 use Rattle.reads.specs.Answers.{sought, accountReply}
 use Rattle.reads.specs.declared.Sought.{Sought}
 use Rattle.reads.specs.declared.Sought.the-variants as found

@@ -12,10 +12,10 @@ use Rattle.rules.proofs.Lists.{sum-more}
 use Rattle.records.specs.Rows.{row}
 use Rattle.records.specs.Records.{sizesOf, placeOf}
 use Rattle.records.specs.declared.Place.{Place}
-use Rattle.contents.specs.Contents.{contentsOf, Sized, usedPlaces}
-use Rattle.contents.specs.Room.{placeRecord, IsRoom}
-use Rattle.lookup.proofs.InRoom.{used-places, loaded-place}
-use Rattle.lookup.proofs.SoundRoom.{places-are}
+use Rattle.room.specs.Contents.{contentsOf, Sized, usedPlaces}
+use Rattle.room.specs.Room.{placeRecord, IsRoom}
+use Rattle.room.proofs.InRoom.{used-places, loaded-place}
+use Rattle.room.proofs.SoundRoom.{places-are}
 
 module _ {A : Type 0} (w : A → ℕ) where
   sum-turn : (xs : List A) (i : ℕ) (d : A) → i < length xs → sum w (take (i + 1) xs) ≡ sum w (take i xs) + w (getD xs i d)

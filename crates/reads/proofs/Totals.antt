@@ -23,8 +23,8 @@ use Rattle.records.specs.Records.{sizesOf, headOf, placeOf}
 use Rattle.records.specs.declared.Place.{Place}
 use Rattle.records.specs.declared.Head.{Head}
 use Rattle.records.specs.declared.Sizes.{Sizes}
-use Rattle.contents.specs.Room.{placeRecord, IsRoom}
-use Rattle.lookup.proofs.SoundRoom.{sizes-are, head-is, sized}
+use Rattle.room.specs.Room.{placeRecord, IsRoom}
+use Rattle.room.proofs.SoundRoom.{sizes-are, head-is, sized}
 use Rattle.reads.specs.Answers.{summed}
 use Rattle.reads.proofs.Sums.{sumTo, sum-next, sum-all, sum-within}
 

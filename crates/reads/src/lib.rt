@@ -4,9 +4,9 @@ use numbers::Microcents;
 use numbers::Sum;
 ghost use mathlib.Core.Path.{_≡_};
 ghost use Prim.Native.Nat.{_≤_};
-ghost use Rattle.rules.specs.RoomAndSoundLedger.{M, Ledger, committedTotal};
+ghost use Rattle.rules.specs.RoomAndSoundLedger.{M, committedTotal};
 ghost use Rattle.rules.specs.AccountRules.{readRemaining, readInitial, readCommitted, readReserved, operate, readCommittedTotal, readAccounts, readLive, readLastVersion, readCommittedSince, readLedger};
-ghost use Rattle.contents.specs.Room.{SoundRoom, IsRoom};
+ghost use Rattle.room.specs.Room.{SoundRoom, OfRoom};
 ghost use Rattle.reads.specs.Answers.{sought, summed, accountReply, readingReply, totalReply, countReply, versionReply, amountReply};
 
 pub enum Reading {
@@ -30,7 +30,7 @@ enum Sought {
 
 fn seek(room: &[u8], part: &[u8]) -> Sought
     requires { ⌜ SoundRoom (now room) ⌝ }
-    ensures { λ r. ⌜ ((L : Ledger) → IsRoom (now (room .entry)) L → r ≡ sought L (now (part .entry))) ⌝ }
+    ensures { λ r. ⌜ OfRoom (now (room .entry)) (λ L. r ≡ sought L (now (part .entry))) ⌝ }
 {
     if 24 < part.len() {
         return Sought::NameTooLong;
@@ -52,7 +52,7 @@ fn of_account(account: u8, amount: u64) -> Reading
 
 pub fn remaining(room: &[u8], part: &[u8]) -> Reading
     requires { ⌜ SoundRoom (now room) ⌝ }
-    ensures { λ r. ⌜ ((L : Ledger) → IsRoom (now (room .entry)) L → readingReply r ≡ operate L (readRemaining (now (part .entry))) .reply) ⌝ }
+    ensures { λ r. ⌜ OfRoom (now (room .entry)) (λ L. readingReply r ≡ operate L (readRemaining (now (part .entry))) .reply) ⌝ }
 {
     let Sought::Seat(seat) = seek(room, part) else {
         return Reading::NameTooLong;
@@ -62,7 +62,7 @@ pub fn remaining(room: &[u8], part: &[u8]) -> Reading
 
 pub fn initial(room: &[u8], part: &[u8]) -> Reading
     requires { ⌜ SoundRoom (now room) ⌝ }
-    ensures { λ r. ⌜ ((L : Ledger) → IsRoom (now (room .entry)) L → readingReply r ≡ operate L (readInitial (now (part .entry))) .reply) ⌝ }
+    ensures { λ r. ⌜ OfRoom (now (room .entry)) (λ L. readingReply r ≡ operate L (readInitial (now (part .entry))) .reply) ⌝ }
 {
     let Sought::Seat(seat) = seek(room, part) else {
         return Reading::NameTooLong;
@@ -72,7 +72,7 @@ pub fn initial(room: &[u8], part: &[u8]) -> Reading
 
 pub fn committed(room: &[u8], part: &[u8]) -> Reading
     requires { ⌜ SoundRoom (now room) ⌝ }
-    ensures { λ r. ⌜ ((L : Ledger) → IsRoom (now (room .entry)) L → readingReply r ≡ operate L (readCommitted (now (part .entry))) .reply) ⌝ }
+    ensures { λ r. ⌜ OfRoom (now (room .entry)) (λ L. readingReply r ≡ operate L (readCommitted (now (part .entry))) .reply) ⌝ }
 {
     let Sought::Seat(seat) = seek(room, part) else {
         return Reading::NameTooLong;
@@ -83,7 +83,7 @@ pub fn committed(room: &[u8], part: &[u8]) -> Reading
 // "reserved of one gives 0": a name without an account has nothing reserved.
 pub fn reserved(room: &[u8], part: &[u8]) -> Reading
     requires { ⌜ SoundRoom (now room) ⌝ }
-    ensures { λ r. ⌜ ((L : Ledger) → IsRoom (now (room .entry)) L → readingReply r ≡ operate L (readReserved (now (part .entry))) .reply) ⌝ }
+    ensures { λ r. ⌜ OfRoom (now (room .entry)) (λ L. readingReply r ≡ operate L (readReserved (now (part .entry))) .reply) ⌝ }
 {
     let Sought::Seat(seat) = seek(room, part) else {
         return Reading::NameTooLong;
@@ -94,7 +94,7 @@ pub fn reserved(room: &[u8], part: &[u8]) -> Reading
 // The sum of what is committed, or that it is above M.
 fn sum_committed(room: &[u8]) -> Sum
     requires { ⌜ SoundRoom (now room) ⌝ }
-    ensures { λ r. ⌜ ((L : Ledger) → IsRoom (now (room .entry)) L → r ≡ summed (committedTotal (L .places))) ⌝ }
+    ensures { λ r. ⌜ OfRoom (now (room .entry)) (λ L. r ≡ summed (committedTotal (L .places))) ⌝ }
 {
     let sizes = records::load_sizes(room);
     let used = sizes.used as usize;
@@ -114,7 +114,7 @@ fn sum_committed(room: &[u8]) -> Sum
 // "the committed total (15 above M)"
 pub fn committed_total(room: &[u8]) -> Total
     requires { ⌜ SoundRoom (now room) ⌝ }
-    ensures { λ r. ⌜ ((L : Ledger) → IsRoom (now (room .entry)) L → totalReply r ≡ readLedger L readCommittedTotal) ⌝ }
+    ensures { λ r. ⌜ OfRoom (now (room .entry)) (λ L. totalReply r ≡ readLedger L readCommittedTotal) ⌝ }
 {
     let Sum::Fits(total) = sum_committed(room) else {
         return Total::AggregateOverflow;
@@ -124,7 +124,7 @@ pub fn committed_total(room: &[u8]) -> Total
 
 pub fn accounts(room: &[u8]) -> u64
     requires { ⌜ SoundRoom (now room) ⌝ }
-    ensures { λ r. ⌜ ((L : Ledger) → IsRoom (now (room .entry)) L → countReply r ≡ readLedger L readAccounts) ⌝ }
+    ensures { λ r. ⌜ OfRoom (now (room .entry)) (λ L. countReply r ≡ readLedger L readAccounts) ⌝ }
 {
     let sizes = records::load_sizes(room);
     let used = sizes.used as usize;
@@ -142,7 +142,7 @@ pub fn accounts(room: &[u8]) -> u64
 
 pub fn live(room: &[u8]) -> u64
     requires { ⌜ SoundRoom (now room) ⌝ }
-    ensures { λ r. ⌜ ((L : Ledger) → IsRoom (now (room .entry)) L → countReply r ≡ readLedger L readLive) ⌝ }
+    ensures { λ r. ⌜ OfRoom (now (room .entry)) (λ L. countReply r ≡ readLedger L readLive) ⌝ }
 {
     let sizes = records::load_sizes(room);
     sizes.live
@@ -150,7 +150,7 @@ pub fn live(room: &[u8]) -> u64
 
 pub fn last_version(room: &[u8]) -> u64
     requires { ⌜ SoundRoom (now room) ⌝ }
-    ensures { λ r. ⌜ ((L : Ledger) → IsRoom (now (room .entry)) L → versionReply r ≡ readLedger L readLastVersion) ⌝ }
+    ensures { λ r. ⌜ OfRoom (now (room .entry)) (λ L. versionReply r ≡ readLedger L readLastVersion) ⌝ }
 {
     let head = records::load_head(room);
     head.last_version
@@ -159,7 +159,7 @@ pub fn last_version(room: &[u8]) -> u64
 // "committed since (the committed total, or M if larger, less the baseline)"
 pub fn committed_since(room: &[u8]) -> Microcents
     requires { ⌜ SoundRoom (now room) ⌝ }
-    ensures { λ r. ⌜ ((L : Ledger) → IsRoom (now (room .entry)) L → amountReply r ≡ readLedger L readCommittedSince) ⌝ }
+    ensures { λ r. ⌜ OfRoom (now (room .entry)) (λ L. amountReply r ≡ readLedger L readCommittedSince) ⌝ }
 {
     let head = records::load_head(room);
     let Sum::Fits(total) = sum_committed(room) else {

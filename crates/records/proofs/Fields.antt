@@ -11,7 +11,7 @@ use Rattle.rules.specs.RoomAndSoundLedger.{IsByte}
 use Rattle.numbers.specs.LittleEndian.{littleNumber, littleBytes}
 use Rattle.numbers.proofs.Bytes.{all-take, all-drop}
 use Rattle.numbers.proofs.LittleEndian.{little-length, little-number, little-bytes, little-small}
-use Rattle.records.specs.Rows.{row, put, fieldBytes}
+use Rattle.records.specs.Rows.{row, put, encoded, fieldBytes}
 use Rattle.records.proofs.Rows.{row-length, row-join, row-apart, put-length, put-next}
 
 abbrev pub total : List ℕ → ℕ
@@ -30,25 +30,35 @@ abbrev pub fields : (from : ℕ) (widths : List ℕ) → List ℕ → List ℕ
 fields from [] xs = []
 fields from (k ∷ ks) xs = littleNumber (row k from xs) ∷ fields (from + k) ks xs
 
--- values put one by one: at numerals this computes to what code leaves that writes each of them
-abbrev pub written : (from : ℕ) (widths values : List ℕ) → List ℕ → List ℕ
-written from [] vs xs = xs
-written from (k ∷ ks) [] xs = xs
-written from (k ∷ ks) (v ∷ vs) xs = written (from + k) ks vs (put from k xs (littleBytes k v))
+-- ── values written one by one, whichever the encoder ───────────────────────────────────────────
+
+module _ (encode : (width value : ℕ) → List ℕ) where
+  -- at numerals this computes to what code leaves that writes each of them
+  abbrev pub written : (from : ℕ) (widths values : List ℕ) → List ℕ → List ℕ
+  written from [] vs xs = xs
+  written from (k ∷ ks) [] xs = xs
+  written from (k ∷ ks) (v ∷ vs) xs = written (from + k) ks vs (put from k xs (encode k v))
+
+  module _ (sized : (k v : ℕ) → length (encode k v) ≡ k) where
+    pub encoded-length : (ks vs : List ℕ) → length vs ≡ length ks → length (encoded encode ks vs) ≡ total ks
+    encoded-length [] vs h = refl
+    encoded-length (k ∷ ks) [] h = absurd (omega arith)
+    encoded-length (k ∷ ks) (v ∷ vs) h = rw (length-append, sized, encoded-length ks vs (omega arith))
+
+    pub written-is : (from : ℕ) (ks vs xs : List ℕ) → length vs ≡ length ks → from + total ks ≤ length xs → written from ks vs xs ≡ put from (total ks) xs (encoded encode ks vs)
+    written-is from [] vs xs h l = sym (take-append-drop from xs)
+    written-is from (k ∷ ks) [] xs h l = absurd (omega arith)
+    written-is from (k ∷ ks) (v ∷ vs) xs h l =
+        let w = encode k v in
+        let fits : from + k ≤ length xs = omega arith in
+        let same : length (put from k xs w) ≡ length xs = put-length from k xs w fits (sized k v) in
+        written-is (from + k) ks vs (put from k xs w) (omega arith) (omega arith) ∙ put-next from k xs w fits (sized k v) (total ks) (encoded encode ks vs)
 
 pub fields-length : (ks vs : List ℕ) → length vs ≡ length ks → length (fieldBytes ks vs) ≡ total ks
-fields-length [] vs h = refl
-fields-length (k ∷ ks) [] h = absurd (omega arith)
-fields-length (k ∷ ks) (v ∷ vs) h = rw (length-append, little-length, fields-length ks vs (omega arith))
+fields-length = encoded-length littleBytes little-length
 
-pub written-is : (from : ℕ) (ks vs xs : List ℕ) → length vs ≡ length ks → from + total ks ≤ length xs → written from ks vs xs ≡ put from (total ks) xs (fieldBytes ks vs)
-written-is from [] vs xs h l = sym (take-append-drop from xs)
-written-is from (k ∷ ks) [] xs h l = absurd (omega arith)
-written-is from (k ∷ ks) (v ∷ vs) xs h l =
-    let w = littleBytes k v in
-    let fits : from + k ≤ length xs = omega arith in
-    let same : length (put from k xs w) ≡ length xs = put-length from k xs w fits (little-length k v) in
-    written-is (from + k) ks vs (put from k xs w) (omega arith) (omega arith) ∙ put-next from k xs w fits (little-length k v) (total ks) (fieldBytes ks vs)
+pub fields-written : (from : ℕ) (ks vs xs : List ℕ) → length vs ≡ length ks → from + total ks ≤ length xs → written littleBytes from ks vs xs ≡ put from (total ks) xs (fieldBytes ks vs)
+fields-written = written-is littleBytes little-length
 
 -- what was written is read
 pub fields-read : (from : ℕ) (ks vs xs rest : List ℕ) → Fit ks vs → drop from xs ≡ fieldBytes ks vs ++ rest → fields from ks xs ≡ vs

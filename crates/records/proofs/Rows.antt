@@ -82,6 +82,17 @@ module _ (b k : ℕ) (xs w : List ℕ) (fits : b + k ≤ length xs) (is-row : le
 pub put-all : (k : ℕ) (xs w : List ℕ) → length xs ≡ k → put 0 k xs w ≡ w
 put-all k xs w h = ap (λ r. w ++ r) (drop-of-length-le xs {i = k} (omega arith)) ∙ append-nil w
 
+-- a part over the start of what follows the front
+pub put-behind : (n k : ℕ) (xs front w : List ℕ) → length front ≡ n → put n k (front ++ drop n xs) w ≡ front ++ w ++ drop (n + k) xs
+put-behind n k xs front w l = rw (take-at front (drop n xs) n l, drop-at front (drop n xs) n l, drop-drop, append-assoc)
+
+-- a part over all that follows the front
+pub two-halves : (n : ℕ) (xs front w : List ℕ) → length front ≡ n → put n (length (front ++ drop n xs) - n) (front ++ drop n xs) w ≡ front ++ w
+two-halves n xs front w l =
+    let k = length (front ++ drop n xs) - n in
+    let all : length xs ≤ n + k = rw (length-append, length-drop) (omega arith) in
+    put-behind n k xs front w l ∙ rw (drop-of-length-le xs all, append-nil)
+
 -- ── rows ───────────────────────────────────────────────────────────────────────────────────────
 
 pub rows-length : (k n : ℕ) (xs : List ℕ) → length (rows k n xs) ≡ n

@@ -21,8 +21,12 @@ rows k (suc n) xs = take k xs ∷ rows k n (drop k xs)
 abbrev pub table : {A : Type 0} → (List ℕ → A) → (k b n : ℕ) → List ℕ → List A
 table f k b n xs = map f (rows k n (drop b xs))
 
--- numbers of these widths, one after the other
+-- numbers of these widths, one after the other, each in the bytes that the encoder gives it
+abbrev pub encoded : (encode : (width value : ℕ) → List ℕ) → (widths values : List ℕ) → List ℕ
+encoded encode [] vs = []
+encoded encode (k ∷ ks) [] = []
+encoded encode (k ∷ ks) (v ∷ vs) = encode k v ++ encoded encode ks vs
+
+-- a record's numbers are little-endian
 abbrev pub fieldBytes : (widths values : List ℕ) → List ℕ
-fieldBytes [] vs = []
-fieldBytes (k ∷ ks) [] = []
-fieldBytes (k ∷ ks) (v ∷ vs) = littleBytes k v ++ fieldBytes ks vs
+fieldBytes = encoded littleBytes

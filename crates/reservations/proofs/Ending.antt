@@ -24,18 +24,18 @@ use Rattle.records.specs.declared.Booking.{Booking}
 use Rattle.records.specs.declared.Sizes.{Sizes}
 use Rattle.records.specs.Rows.{row}
 use Rattle.records.specs.Records.{sizesOf, bookingOf}
-use Rattle.contents.specs.Contents.{contentsOf, Sized, baseOf, usedPlaces, liveBookings, bookingOfId, placeOfName, removedBooking}
-use Rattle.contents.specs.Room.{placeRecord, placeNumber, bookingRecord, contentsIn, IsRoom, Performs}
-use Rattle.contents.specs.Seats.{seatFound, withSeat}
-use Rattle.contents.specs.declared.Found.{Found}
-use Rattle.contents.specs.declared.Found.the-variants.{At, Absent}
-use Rattle.contents.proofs.Numbers.{found-number, number-below}
-use Rattle.contents.proofs.Steps.{BookingFound, live-at, not-live, booking-found}
-use Rattle.contents.proofs.Seating.{seat-found, kept-account, kept-limit, seat-sound}
-use Rattle.contents.proofs.Settling.{ended-contents}
-use Rattle.lookup.proofs.ByIndex.{any-default, all-read}
-use Rattle.lookup.proofs.InRoom.{loaded-booking}
-use Rattle.lookup.proofs.SoundRoom.{places-are, bookings-are, sized}
+use Rattle.room.specs.Contents.{contentsOf, Sized, baseOf, usedPlaces, liveBookings, bookingOfId, placeOfName, removedBooking}
+use Rattle.room.specs.Room.{placeRecord, placeNumber, bookingRecord, contentsIn, IsRoom, Performed}
+use Rattle.room.specs.Seats.{seatFound, withSeat}
+use Rattle.room.specs.declared.Found.{Found}
+use Rattle.room.specs.declared.Found.the-variants.{At, Absent}
+use Rattle.room.proofs.Numbers.{found-number, number-below}
+use Rattle.room.proofs.Steps.{BookingFound, live-at, not-live, booking-found}
+use Rattle.room.proofs.Seating.{seat-found, kept-account, kept-limit, seat-sound}
+use Rattle.room.proofs.Settling.{ended-contents}
+use Rattle.rules.proofs.ByIndex.{any-default, all-read}
+use Rattle.room.proofs.InRoom.{loaded-booking}
+use Rattle.room.proofs.SoundRoom.{places-are, bookings-are, sized}
 use Rattle.reservations.specs.Steps.{noBooking, bookingAt, dueAt}
 use Rattle.reservations.specs.declared.Due.{Due}
 use Rattle.reservations.proofs.Fitting.{SettlementFits}
@@ -153,7 +153,7 @@ module _ (xs : List ℕ) (L : Ledger) (room : IsRoom xs L) where
 
   module _ (x : AccountOperation ℕ) (id : ℕ) (missing : Refusal) (rule : ℕ → Option Account → ℕ → Settlement) (settles : operate L x ≡ onBooking L (booked id bs) missing rule) where
     -- no such reservation
-    pub refuses : booked id bs ≡ none → (r : Reply) → r ≡ replyOf missing → Performs (λ K. operate K x) L r xs
+    pub refuses : booked id bs ≡ none → (r : Reply) → r ≡ replyOf missing → Performed (λ K. operate K x) L r xs
     unfolding onBooking
     refuses e r q = stays x L xs room r (replyOf missing) (settles ∙ ap (λ o. onBooking L o missing rule) e) q
 
@@ -182,13 +182,13 @@ module _ (xs : List ℕ) (L : Ledger) (room : IsRoom xs L) where
     end-allowed decided m = (sized xs L room, due-owner j (m .found .below) d (m .due), live-below id j (m .found))
 
     -- the reservation stays
-    pub leaves : (e : Refusal) → Settled L x id j d (leave e) → (r : Reply) → r ≡ replyOf e → Performs (λ K. operate K x) L r xs
+    pub leaves : (e : Refusal) → Settled L x id j d (leave e) → (r : Reply) → r ≡ replyOf e → Performed (λ K. operate K x) L r xs
     unfolding settle
     leaves e m r q = stays x L xs room r (replyOf e) (m .move) q
 
     -- the reservation ends
     pub ends : AccountOperationFits x → (zs : List ℤ) (s : Seat) → Settled L x id j d (end zs (meaning s)) → SeatSound s → (r : Reply) → r ≡ doneWith zs
-        → (ys : List ℕ) → (length ys ≡ length xs) × (contentsOf ys ≡ removedBooking j (withSeat (d .owner) s (contentsOf xs))) → Performs (λ K. operate K x) L r ys
+        → (ys : List ℕ) → (length ys ≡ length xs) × (contentsOf ys ≡ removedBooking j (withSeat (d .owner) s (contentsOf xs))) → Performed (λ K. operate K x) L r ys
     unfolding settle dueAt
     ends fit zs s m known r q ys (l, k) =
         let c : RulesBooking = bookingAt L j in

@@ -12,8 +12,8 @@ use Rattle.rules.specs.AnswerNumbers.{Reply, Outcome, outcome}
 use Rattle.rules.specs.AccountRules.{AccountOperation, operate}
 use Rattle.rules.specs.Domain.{IsAmount, AccountOperationFits}
 use Rattle.rules.proofs.Soundness.{operate-sound}
-use Rattle.contents.specs.Contents.{contentsOf}
-use Rattle.contents.specs.Room.{contentsIn, IsRoom, Performs}
+use Rattle.room.specs.Contents.{contentsOf}
+use Rattle.room.specs.Room.{contentsIn, IsRoom, Performed}
 
 -- an amount is a signed 64-bit number
 pub amount-fits : (z : ℤ) → mag z < 2 ^ 63 → IsAmount z
@@ -22,11 +22,11 @@ amount-fits (pos n) h = le-leb n M (omega arith)
 amount-fits (negsuc n) h = le-leb n M (omega arith)
 
 module _ (x : AccountOperation ℕ) (L : Ledger) (xs : List ℕ) (room : IsRoom xs L) where
-  pub stays : (r s : Reply) → operate L x ≡ outcome s L → r ≡ s → Performs (λ K. operate K x) L r xs
+  pub stays : (r s : Reply) → operate L x ≡ outcome s L → r ≡ s → Performed (λ K. operate K x) L r xs
   stays r s e q = record { answer = q ∙ sym (ap (λ o. o .reply) e); room = subst (IsRoom xs) (sym (ap (λ o. o .ledger) e)) room }
 
   pub becomes : AccountOperationFits x → (r s : Reply) (K : Ledger) → operate L x ≡ outcome s K → r ≡ s → K .T ≡ L .T → K .R ≡ L .R
-      → (ys : List ℕ) → length ys ≡ length xs → contentsOf ys ≡ contentsIn K → Performs (λ K. operate K x) L r ys
+      → (ys : List ℕ) → length ys ≡ length xs → contentsOf ys ≡ contentsIn K → Performed (λ K. operate K x) L r ys
   becomes fits r s K e q t n ys l k =
       record {
         answer = q ∙ sym (ap (λ o. o .reply) e);

@@ -21,17 +21,17 @@ use Rattle.records.specs.declared.Place.{Place}
 use Rattle.records.specs.declared.Head.{Head}
 use Rattle.records.specs.Records.{headOf}
 use Rattle.heads.specs.Heads.{afterDraw}
-use Rattle.contents.specs.Contents.{contentsOf, usedPlaces, placeOfName, withHead, appendedBooking}
-use Rattle.contents.specs.Room.{placeNumber, headIn, contentsIn, IsRoom, Performs}
-use Rattle.contents.specs.Seats.{FoundIn, seatFound, withSeat}
-use Rattle.contents.specs.declared.Found.{Found}
-use Rattle.contents.specs.declared.Found.the-variants.{At, Absent}
-use Rattle.contents.proofs.Numbers.{found-number, number-below}
-use Rattle.contents.proofs.Steps.{id-drawn}
-use Rattle.contents.proofs.Seating.{seat-found, kept-account, kept-limit, seat-sound}
-use Rattle.contents.proofs.Settling.{booked-contents}
+use Rattle.room.specs.Contents.{contentsOf, usedPlaces, placeOfName, withHead, appendedBooking}
+use Rattle.room.specs.Room.{placeNumber, headIn, contentsIn, IsRoom, Performed}
+use Rattle.room.specs.Seats.{FoundIn, seatFound, withSeat}
+use Rattle.room.specs.declared.Found.{Found}
+use Rattle.room.specs.declared.Found.the-variants.{At, Absent}
+use Rattle.room.proofs.Numbers.{found-number, number-below}
+use Rattle.room.proofs.Steps.{id-drawn}
+use Rattle.room.proofs.Seating.{seat-found, kept-account, kept-limit, seat-sound}
+use Rattle.room.proofs.Settling.{booked-contents}
 use Rattle.lookup.proofs.Places.{noPlace, name-found}
-use Rattle.lookup.proofs.SoundRoom.{head-is, places-are}
+use Rattle.room.proofs.SoundRoom.{head-is, places-are}
 use Rattle.reservations.specs.Answers.{reservedReply}
 use Rattle.reservations.specs.Steps.{Booked, granted, full}
 use Rattle.reservations.specs.declared.Reserved.{Reserved}
@@ -104,7 +104,7 @@ module _ (xs : List ℕ) (L : Ledger) (room : IsRoom xs L) (a : Name) where
         omega (arith, number-is i e, number-below a ps holds)
 
   module _ (z : ℤ) where
-    pub too-long : 24 < length a → Performs (λ K. operate K (reserve a z)) L (replyOf NameTooLong) xs
+    pub too-long : 24 < length a → Performed (λ K. operate K (reserve a z)) L (replyOf NameTooLong) xs
     too-long long = stays (reserve a z) L xs room _ (replyOf NameTooLong) (unfold operate onName perform in rw (lt-ltb 24 (length a) long)) refl
 
     abbrev ruleAt : Seat → ℕ → Move
@@ -127,18 +127,18 @@ module _ (xs : List ℕ) (L : Ledger) (room : IsRoom xs L) (a : Name) where
         }
 
     -- a refusal
-    pub refuses : (e : Refusal) (r : Reserving) → Decided L a z r → reservingMove z r ≡ refuse e → (t : Reply) → t ≡ replyOf e → Performs (λ K. operate K (reserve a z)) L t xs
+    pub refuses : (e : Refusal) (r : Reserving) → Decided L a z r → reservingMove z r ≡ refuse e → (t : Reply) → t ≡ replyOf e → Performed (λ K. operate K (reserve a z)) L t xs
     refuses e r d m t q = stays (reserve a z) L xs room t (replyOf e) (d .move ∙ ap (perform L a) m ∙ (unfold perform in refl)) q
 
     module _ (bytes : IsBytes a) (amount : IsAmount z) (h : Head) (loaded : h ≡ headOf xs) where
       -- an id drawn and lost
       pub loses : (remaining cost : ℕ) → Decided L a z (reserving.Insufficient remaining cost) → (t : Reply) → t ≡ replyOf (Insufficient remaining (pos cost))
-          → (ys : List ℕ) → length ys ≡ length xs → contentsOf ys ≡ withHead (afterDraw h) (contentsOf xs) → Performs (λ K. operate K (reserve a z)) L t ys
+          → (ys : List ℕ) → length ys ≡ length xs → contentsOf ys ≡ withHead (afterDraw h) (contentsOf xs) → Performed (λ K. operate K (reserve a z)) L t ys
       loses remaining cost d t q ys l k =
           becomes (reserve a z) L xs room (bytes, amount) t (replyOf (Insufficient remaining (pos cost))) (drawn L) (d .move ∙ (unfold perform in refl)) q refl refl ys l
           (k ∙ ap₂ (λ g c. withHead (afterDraw g) c) (loaded ∙ head-is xs L room) (room .holds) ∙ id-drawn L)
 
-      pub books : (s : Seat) (cost : ℕ) → Decided L a z (reserving.Booked s cost) → (i : ℕ) → At i ≡ placeOfName a searched → {r : Reserved} {ys : List ℕ} → Booked i s cost h xs r ys → Performs (λ K. operate K (reserve a z)) L (reservedReply r) ys
+      pub books : (s : Seat) (cost : ℕ) → Decided L a z (reserving.Booked s cost) → (i : ℕ) → At i ≡ placeOfName a searched → {r : Reserved} {ys : List ℕ} → Booked i s cost h xs r ys → Performed (λ K. operate K (reserve a z)) L (reservedReply r) ys
       unfolding contentsIn
       books s cost d i e (granted remaining id ys left p q l k) =
           let n : i ≡ placeNumber a ps = number-is (d .fits .1) i e in

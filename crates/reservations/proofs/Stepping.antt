@@ -5,8 +5,8 @@ use Prim.Native.Nat.{ℕ, suc, _<_}
 use lib.ListN.{length}
 use Rattle.moves.specs.declared.Seat.{Seat}
 use Rattle.records.specs.declared.Booking.{Booking}
-use Rattle.contents.specs.Contents.{contentsOf, Sized, appendedBooking}
-use Rattle.contents.specs.Seats.{withSeat}
+use Rattle.room.specs.Contents.{contentsOf, Sized, appendedBooking}
+use Rattle.room.specs.Seats.{withSeat}
 use Rattle.tables.proofs.Stores.{sized-by, still-sized, recounted}
 
 module _ (xs ys : List ℕ) (sized : Sized xs) where

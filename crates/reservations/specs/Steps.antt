@@ -12,9 +12,9 @@ use Rattle.moves.specs.declared.Seat.{Seat}
 use Rattle.moves.specs.Moves.{keptSeat}
 use Rattle.records.specs.declared.Head.{Head}
 use Rattle.heads.specs.Heads.{afterDraw}
-use Rattle.contents.specs.Contents.{contentsOf, withHead, appendedBooking}
-use Rattle.contents.specs.Room.{placeNumber}
-use Rattle.contents.specs.Seats.{withSeat}
+use Rattle.room.specs.Contents.{contentsOf, withHead, appendedBooking}
+use Rattle.room.specs.Room.{placeNumber}
+use Rattle.room.specs.Seats.{withSeat}
 use Rattle.reservations.specs.declared.Due.{Due}
 use Rattle.reservations.specs.declared.Reserved.{Reserved}
 use Rattle.reservations.specs.declared.Reserved.the-variants.{Granted, ReservationsFull}

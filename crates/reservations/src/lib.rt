@@ -1,5 +1,5 @@
 // Reserve, commit and release on a ledger already known to be sound, which they leave sound.
-use contents::Found;
+use room::Found;
 use moves::Committing;
 use moves::Releasing;
 use moves::Reserving;
@@ -12,13 +12,13 @@ use records::Head;
 ghost use mathlib.Core.Path.{_≡_};
 ghost use Prim.Native.Nat.{_≤_, _<_};
 ghost use lib.ListN.{length};
-ghost use Rattle.rules.specs.RoomAndSoundLedger.{M, Ledger};
+ghost use Rattle.rules.specs.RoomAndSoundLedger.{M};
 ghost use Rattle.rules.specs.AnswerNumbers.{replyOf};
 ghost use Rattle.rules.specs.AccountRules.{reserve, commit, release, commitOfNone, operate};
 ghost use Rattle.heads.specs.Heads.{afterDraw};
-ghost use Rattle.contents.specs.Contents.{contentsOf, Sized, withHead, removedBooking};
-ghost use Rattle.contents.specs.Room.{SoundRoom, IsRoom, Performs};
-ghost use Rattle.contents.specs.Seats.{withSeat};
+ghost use Rattle.room.specs.Contents.{contentsOf, Sized, withHead, removedBooking};
+ghost use Rattle.room.specs.Room.{SoundRoom, Performs, OfRoom};
+ghost use Rattle.room.specs.Seats.{withSeat};
 ghost use Rattle.reservations.specs.Answers.{reservedReply, committedReply, releasedReply};
 ghost use Rattle.reservations.specs.Steps.{Booked, dueAt};
 
@@ -91,7 +91,7 @@ fn book(room: &mut [u8], i: usize, seat: Seat, cost: u64, head: Head) -> Reserve
 
 pub fn reserve(room: &mut [u8], part: &[u8], cost: Microcents) -> Reserved
     requires { ⌜ SoundRoom (now room) ⌝ }
-    ensures { λ r. ⌜ ((L : Ledger) → IsRoom (now (room .entry)) L → Performs (λ K. operate K (reserve (now (part .entry)) (cost .0))) L (reservedReply r) (now (room .exit))) ⌝ }
+    ensures { λ r. ⌜ Performs (λ K. operate K (reserve (now (part .entry)) (cost .0))) (now (room .entry)) (reservedReply r) (now (room .exit)) ⌝ }
 {
     if 24 < part.len() {
         return Reserved::NameTooLong;
@@ -124,7 +124,7 @@ pub fn reserve(room: &mut [u8], part: &[u8], cost: Microcents) -> Reserved
 // What a settlement asks of the reservation at j.
 fn due_at(room: &[u8], j: usize) -> Due
     requires { ⌜ SoundRoom (now room) × (j < contentsOf (now room) .sizes .live) ⌝ }
-    ensures { λ r. ⌜ ((L : Ledger) → IsRoom (now (room .entry)) L → r ≡ dueAt L j) ⌝ }
+    ensures { λ r. ⌜ OfRoom (now (room .entry)) (λ L. r ≡ dueAt L j) ⌝ }
 {
     let sizes = records::load_sizes(room);
     let base = 56 + 66 * (sizes.names as usize);
@@ -149,7 +149,7 @@ fn end(room: &mut [u8], j: usize, owner: usize, seat: Seat)
 
 pub fn commit(room: &mut [u8], id: Identifier, actual: Microcents) -> Committed
     requires { ⌜ SoundRoom (now room) ⌝ }
-    ensures { λ r. ⌜ ((L : Ledger) → IsRoom (now (room .entry)) L → Performs (λ K. operate K (commit (id .0) (actual .0))) L (committedReply r) (now (room .exit))) ⌝ }
+    ensures { λ r. ⌜ Performs (λ K. operate K (commit (id .0) (actual .0))) (now (room .entry)) (committedReply r) (now (room .exit)) ⌝ }
 {
     let number = id.0;
     let Found::At(j) = lookup::find_booking(room, number) else {
@@ -182,7 +182,7 @@ fn missing_commit(actual: Microcents) -> Committed
 
 pub fn release(room: &mut [u8], id: Identifier) -> Released
     requires { ⌜ SoundRoom (now room) ⌝ }
-    ensures { λ r. ⌜ ((L : Ledger) → IsRoom (now (room .entry)) L → Performs (λ K. operate K (release (id .0))) L (releasedReply r) (now (room .exit))) ⌝ }
+    ensures { λ r. ⌜ Performs (λ K. operate K (release (id .0))) (now (room .entry)) (releasedReply r) (now (room .exit)) ⌝ }
 {
     let number = id.0;
     let Found::At(j) = lookup::find_booking(room, number) else {

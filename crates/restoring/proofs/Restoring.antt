@@ -28,8 +28,8 @@ use Rattle.validation.specs.Judgement.{refusalOf, refusalIn, nameless, judgedRe
 use Rattle.validation.proofs.Deciding.{NotDone, refuses}
 use Rattle.records.specs.Records.{sizesOf}
 use Rattle.records.specs.declared.Sizes.{Sizes}
-use Rattle.contents.specs.Room.{IsRoom, Performs}
-use Rattle.lookup.proofs.SoundRoom.{sizes-are}
+use Rattle.room.specs.Room.{IsRoom, Performed}
+use Rattle.room.proofs.SoundRoom.{sizes-are}
 use Rattle.filling.specs.Filling.{Takes, Holds}
 use Rattle.restoring.specs.Forms.{restoreBy, Keeps}
 
@@ -76,7 +76,7 @@ checked {of-version} {room} are judged =
     record { is = λ s e L is-room. judged s e ∙ ap (λ sizes. restoreRefusal of-version (sizes .names) s) (are ∙ sizes-are room L is-room) }
 
 module _ {of-version : Option Refusal} {room bytes : List ℕ} {j : Judged} (told : Told of-version room bytes j) where
-  pub refused : NotDone (j .verdict) → (s : Snapshot) → snapshotOfBytes bytes ≡ some s → (L : Ledger) → IsRoom room L → Performs (λ K. restoreBy of-version K s) L (judgedReply j) room
+  pub refused : NotDone (j .verdict) → (s : Snapshot) → snapshotOfBytes bytes ≡ some s → (L : Ledger) → IsRoom room L → Performed (λ K. restoreBy of-version K s) L (judgedReply j) room
   refused other s e L is-room =
       let is = told .is s e L is-room in
       record {
@@ -92,7 +92,7 @@ module _ {of-version : Option Refusal} {room bytes : List ℕ} {j : Judged} (tol
     taken known L is-room = takes of-version (known .snapshot) (known .is-read) (none-refused (known .snapshot) (known .is-read) L is-room)
 
     pub replaced : {after : List ℕ} → ((L : Ledger) → IsRoom room L → (s : Snapshot) → snapshotOfBytes bytes ≡ some s → Holds (restored L s) room after) → ((i : ℕ) → Fits w8 (getD bytes i 0))
-        → Keeps bytes of-version → (s : Snapshot) → snapshotOfBytes bytes ≡ some s → (L : Ledger) → IsRoom room L → Performs (λ K. restoreBy of-version K s) L (judgedReply j) after
+        → Keeps bytes of-version → (s : Snapshot) → snapshotOfBytes bytes ≡ some s → (L : Ledger) → IsRoom room L → Performed (λ K. restoreBy of-version K s) L (judgedReply j) after
     replaced {after} filled are-bytes keeps s e L is-room =
         let is = ledger-after L (restored L s) _ (none-refused s e L is-room) in
         let holds = filled L is-room s e in
@@ -126,6 +126,6 @@ module _ (form : ℕ → Option Refusal) (bytes : List ℕ) {version : ℕ} (is-
   pub form-keeps : FormKeeps form → Keeps bytes of-version
   form-keeps keeps = record { sound = λ s e fits L known. subst (λ o. Sound (restoreBy o L s .ledger)) (sym (of-form s e)) (keeps L known s fits) }
 
-  pub by-its-form : {room after : List ℕ} {r : Reply} → ((s : Snapshot) → snapshotOfBytes bytes ≡ some s → (L : Ledger) → IsRoom room L → Performs (λ K. restoreBy of-version K s) L r after)
-      → (s : Snapshot) → snapshotOfBytes bytes ≡ some s → (L : Ledger) → IsRoom room L → Performs (λ K. restoreBy (form (s .version)) K s) L r after
-  by-its-form {after} {r} performs s e L is-room = subst (λ o. Performs (λ K. restoreBy o K s) L r after) (of-form s e) (performs s e L is-room)
+  pub by-its-form : {room after : List ℕ} {r : Reply} → ((s : Snapshot) → snapshotOfBytes bytes ≡ some s → (L : Ledger) → IsRoom room L → Performed (λ K. restoreBy of-version K s) L r after)
+      → (s : Snapshot) → snapshotOfBytes bytes ≡ some s → (L : Ledger) → IsRoom room L → Performed (λ K. restoreBy (form (s .version)) K s) L r after
+  by-its-form {after} {r} performs s e L is-room = subst (λ o. Performed (λ K. restoreBy o K s) L r after) (of-form s e) (performs s e L is-room)

@@ -3,13 +3,11 @@ use validation::Judged;
 use validation::Verdict;
 ghost use mathlib.Core.Path.{_≡_};
 ghost use mathlib.Core.List.{[]};
-ghost use mathlib.Core.Option.{some};
 ghost use Prim.Native.Nat.{_≤_};
-ghost use Rattle.rules.specs.RoomAndSoundLedger.{Ledger};
-ghost use Rattle.rules.specs.SnapshotsMigrationCertificates.{Snapshot, snapshotOfBytes, restoreVersion, recoveryVersion, restoreRefusal, restore, recoveryRestore};
-ghost use Rattle.snapshot_reader.specs.Standing.{IsSnapshot};
+ghost use Rattle.rules.specs.SnapshotsMigrationCertificates.{restoreVersion, recoveryVersion, restoreRefusal, restore, recoveryRestore};
+ghost use Rattle.snapshot_reader.specs.Standing.{IsSnapshot, OfSnapshot};
 ghost use Rattle.validation.specs.Judgement.{refusalOf, refusalIn, judgedReply};
-ghost use Rattle.contents.specs.Room.{SoundRoom, IsRoom, Performs};
+ghost use Rattle.room.specs.Room.{SoundRoom, Performs};
 ghost use Rattle.restoring.specs.Forms.{restoreBy, Keeps};
 
 const M: u64 = 9223372036854775807;
@@ -44,7 +42,7 @@ fn recovery_version(version: u64) -> Verdict
 // before it.
 fn refusal(names: u64, bytes: &[u8], of_version: Verdict) -> Judged
     requires { ⌜ IsSnapshot (now bytes) ⌝ }
-    ensures refusal { λ r. ⌜ ((s : Snapshot) → snapshotOfBytes (now (bytes .entry)) ≡ some s → refusalIn r ≡ restoreRefusal (refusalOf [] «of_version») names s) ⌝ }
+    ensures refusal { λ r. ⌜ OfSnapshot (now (bytes .entry)) (λ s. refusalIn r ≡ restoreRefusal (refusalOf [] «of_version») names s) ⌝ }
     ensures short { λ r. ⌜ r .name .length ≤ 24 ⌝ }
 {
     if snapshot_reader::has_long_name(bytes) {
@@ -67,7 +65,7 @@ fn refusal(names: u64, bytes: &[u8], of_version: Verdict) -> Judged
 // Both forms, which differ in what they say of the version alone.
 fn restore_by(room: &mut [u8], bytes: &[u8], of_version: Verdict) -> Judged
     requires { ⌜ SoundRoom (now room) × IsSnapshot (now bytes) × Keeps (now bytes) (refusalOf [] «of_version») ⌝ }
-    ensures performs { λ r. ⌜ ((s : Snapshot) → snapshotOfBytes (now (bytes .entry)) ≡ some s → (L : Ledger) → IsRoom (now (room .entry)) L → Performs (λ K. restoreBy (refusalOf [] «of_version») K s) L (judgedReply r) (now (room .exit))) ⌝ }
+    ensures performs { λ r. ⌜ OfSnapshot (now (bytes .entry)) (λ s. Performs (λ K. restoreBy (refusalOf [] «of_version») K s) (now (room .entry)) (judgedReply r) (now (room .exit))) ⌝ }
     ensures short { λ r. ⌜ r .name .length ≤ 24 ⌝ }
 {
     let sizes = records::load_sizes(room);
@@ -82,7 +80,7 @@ fn restore_by(room: &mut [u8], bytes: &[u8], of_version: Verdict) -> Judged
 
 pub fn restore(room: &mut [u8], bytes: &[u8]) -> Judged
     requires { ⌜ SoundRoom (now room) × IsSnapshot (now bytes) ⌝ }
-    ensures performs { λ r. ⌜ ((s : Snapshot) → snapshotOfBytes (now (bytes .entry)) ≡ some s → (L : Ledger) → IsRoom (now (room .entry)) L → Performs (λ K. restore K s) L (judgedReply r) (now (room .exit))) ⌝ }
+    ensures performs { λ r. ⌜ OfSnapshot (now (bytes .entry)) (λ s. Performs (λ K. restore K s) (now (room .entry)) (judgedReply r) (now (room .exit))) ⌝ }
     ensures short { λ r. ⌜ r .name .length ≤ 24 ⌝ }
 {
     restore_by(
@@ -94,7 +92,7 @@ pub fn restore(room: &mut [u8], bytes: &[u8]) -> Judged
 
 pub fn recovery_restore(room: &mut [u8], bytes: &[u8]) -> Judged
     requires { ⌜ SoundRoom (now room) × IsSnapshot (now bytes) ⌝ }
-    ensures performs { λ r. ⌜ ((s : Snapshot) → snapshotOfBytes (now (bytes .entry)) ≡ some s → (L : Ledger) → IsRoom (now (room .entry)) L → Performs (λ K. recoveryRestore K s) L (judgedReply r) (now (room .exit))) ⌝ }
+    ensures performs { λ r. ⌜ OfSnapshot (now (bytes .entry)) (λ s. Performs (λ K. recoveryRestore K s) (now (room .entry)) (judgedReply r) (now (room .exit))) ⌝ }
     ensures short { λ r. ⌜ r .name .length ≤ 24 ⌝ }
 {
     restore_by(

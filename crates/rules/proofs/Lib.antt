@@ -29,3 +29,4 @@ pub mod Counterparts
 pub mod OrderBetweenAirlines
 pub mod OtherSeats
 pub mod OrderExample
+pub mod ByIndex

@@ -1,7 +1,7 @@
 -- Laws of the functions and predicates on lists.
 use mathlib.Core.Path.{_≡_, refl, subst}
 use mathlib.Core.Bool.{Bool, true, false, cond}
-use mathlib.Core.List.{List, [], _∷_, _++_}
+use mathlib.Core.List.{List, [], _∷_, _++_, flatMap, append-assoc, append-nil}
 use mathlib.Core.Option.{none, some}
 use Prim.Native.Nat.{ℕ, suc, _+_, _≤_}
 use native.Mathlib.Omega.{arith}
@@ -126,3 +126,14 @@ module _ {A : Type 0} where
   unfolding sum
   sum-zero w [] h = refl
   sum-zero w (x ∷ xs) (h, k) = omega (arith, sum-zero w xs k)
+
+-- ── lists made one behind the other ────────────────────────────────────────────────────────────
+
+pub flatMap-append : {A B : Type 0} (f : A → List B) (xs ys : List A) → flatMap f (xs ++ ys) ≡ flatMap f xs ++ flatMap f ys
+unfolding flatMap
+flatMap-append f [] ys = refl
+flatMap-append f (x ∷ xs) ys = rw (flatMap-append f xs ys, append-assoc)
+
+pub flatMap-one : {A B : Type 0} (f : A → List B) (x : A) → flatMap f (x ∷ []) ≡ f x
+unfolding flatMap
+flatMap-one f x = append-nil (f x)

@@ -21,6 +21,10 @@ pub record IsSnapshot (bs : List ℕ) : Type 0 where
   pub snapshot : Snapshot
   pub is-read : snapshotOfBytes bs ≡ some snapshot
 
+-- what holds of the snapshot that the bytes are
+abbrev pub OfSnapshot : List ℕ → (Snapshot → Type 0) → Type 0
+OfSnapshot bs P = (s : Snapshot) → snapshotOfBytes bs ≡ some s → P s
+
 -- from this byte on, the bytes are just these rows
 pub record RowsFrom (bs : List ℕ) (at : ℕ) (rs : List Row) : Type 0 where
   pub within : at ≤ length bs

@@ -1,12 +1,11 @@
 // A supplied snapshot in lent bytes. Its rows have names of any length up to 255 and are read where they stand, one after the other to the last byte.
 use numbers::Microcents;
 ghost use mathlib.Core.Path.{_≡_};
-ghost use mathlib.Core.Option.{some};
 ghost use mathlib.Core.List.{List, _∷_};
 ghost use Prim.Native.Nat.{_≤_};
 ghost use lib.ListN.{length, drop};
-ghost use Rattle.rules.specs.SnapshotsMigrationCertificates.{Row, Snapshot, readRow, snapshotOfBytes, hasLongName};
-ghost use Rattle.snapshot_reader.specs.Standing.{isRead, IsSnapshot, RowsFrom, RowStands, RowEnds, EndsName, ReadsRow};
+ghost use Rattle.rules.specs.SnapshotsMigrationCertificates.{Row, readRow, snapshotOfBytes, hasLongName};
+ghost use Rattle.snapshot_reader.specs.Standing.{isRead, IsSnapshot, RowsFrom, RowStands, RowEnds, EndsName, ReadsRow, OfSnapshot};
 
 // A row's amounts, where its name ends (it starts after its length), and where the row ends.
 pub struct StandingRow {
@@ -62,21 +61,21 @@ pub fn is_snapshot(bytes: &[u8]) -> bool
 
 pub fn version(bytes: &[u8]) -> u64
     requires { ⌜ IsSnapshot (now bytes) ⌝ }
-    ensures { λ r. ⌜ ((s : Snapshot) → snapshotOfBytes (now (bytes .entry)) ≡ some s → r ≡ s .version) ⌝ }
+    ensures { λ r. ⌜ OfSnapshot (now (bytes .entry)) (λ s. r ≡ s .version) ⌝ }
 {
     big_endian::read8(&bytes[0..8])
 }
 
 pub fn active(bytes: &[u8]) -> u64
     requires { ⌜ IsSnapshot (now bytes) ⌝ }
-    ensures { λ r. ⌜ ((s : Snapshot) → snapshotOfBytes (now (bytes .entry)) ≡ some s → r ≡ s .active) ⌝ }
+    ensures { λ r. ⌜ OfSnapshot (now (bytes .entry)) (λ s. r ≡ s .active) ⌝ }
 {
     big_endian::read8(&bytes[8..16])
 }
 
 pub fn count(bytes: &[u8]) -> u64
     requires { ⌜ IsSnapshot (now bytes) ⌝ }
-    ensures { λ r. ⌜ ((s : Snapshot) → snapshotOfBytes (now (bytes .entry)) ≡ some s → r ≡ length (s .rows)) ⌝ }
+    ensures { λ r. ⌜ OfSnapshot (now (bytes .entry)) (λ s. r ≡ length (s .rows)) ⌝ }
 {
     big_endian::read2(&bytes[16..18])
 }
@@ -110,7 +109,7 @@ pub fn read_row(bytes: &[u8], at: usize) -> StandingRow
 // "a name length over 24 whose bytes fit": one pass over the rows.
 pub fn has_long_name(bytes: &[u8]) -> bool
     requires { ⌜ IsSnapshot (now bytes) ⌝ }
-    ensures { λ r. ⌜ ((s : Snapshot) → snapshotOfBytes (now (bytes .entry)) ≡ some s → r ≡ hasLongName (s .rows)) ⌝ }
+    ensures { λ r. ⌜ OfSnapshot (now (bytes .entry)) (λ s. r ≡ hasLongName (s .rows)) ⌝ }
 {
     let mut at = 18;
     while at < bytes.len() {

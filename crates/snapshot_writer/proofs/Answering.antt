@@ -21,11 +21,11 @@ use Rattle.records.specs.declared.Head.{Head}
 use Rattle.records.specs.declared.Sizes.{Sizes}
 use Rattle.heads.specs.Heads.{stampedHead}
 use Rattle.heads.specs.declared.Stamped.the-variants as stamped
-use Rattle.row_writer.specs.Rows.{headerBytes, WritesRows}
-use Rattle.row_writer.specs.declared.Extent.{Extent}
-use Rattle.contents.specs.Contents.{contentsOf, withHead}
-use Rattle.contents.specs.Room.{headIn, contentsIn, IsRoom, Performs}
-use Rattle.lookup.proofs.SoundRoom.{sizes-are}
+use Rattle.snapshot_writer.specs.Rows.{headerBytes, WritesRows}
+use Rattle.snapshot_writer.specs.declared.Extent.{Extent}
+use Rattle.room.specs.Contents.{contentsOf, withHead}
+use Rattle.room.specs.Room.{headIn, contentsIn, IsRoom, Performed}
+use Rattle.room.proofs.SoundRoom.{sizes-are}
 use Rattle.snapshot_writer.specs.Output.{outputAfter, snapshotReply}
 use Rattle.snapshot_writer.specs.declared.Snapshotted.the-variants as snapshotted
 use Rattle.snapshot_writer.proofs.PlaceRows.{snapshot-size, rows-most}
@@ -103,24 +103,24 @@ module _ (s : Snapshot) (before rows after : List ℕ) (e : Extent) (room : 18 �
 
 -- ── the promise ────────────────────────────────────────────────────────────────────────────────
 
-promise : (size : ℕ) (L : Ledger) (o : Outcome) (r : Reply) (ys : List ℕ) → snapshot size L ≡ o → r ≡ o .reply → IsRoom ys (o .ledger) → Performs (snapshot size) L r ys
+promise : (size : ℕ) (L : Ledger) (o : Outcome) (r : Reply) (ys : List ℕ) → snapshot size L ≡ o → r ≡ o .reply → IsRoom ys (o .ledger) → Performed (snapshot size) L r ys
 promise size L o r ys e q k = record { answer = q ∙ sym (ap (λ o. o .reply) e); room = subst (λ (o : Outcome). IsRoom ys (o .ledger)) (sym e) k }
 
 module _ (xs : List ℕ) (L : Ledger) (room : IsRoom xs L) where
-  pub answers-exhausted : (size : ℕ) → stampedHead (headIn L) ≡ stamped.AllocatorExhausted → Performs (snapshot size) L (replyOf AllocatorExhausted) xs
+  pub answers-exhausted : (size : ℕ) → stampedHead (headIn L) ≡ stamped.AllocatorExhausted → Performed (snapshot size) L (replyOf AllocatorExhausted) xs
   answers-exhausted size e = promise size L (refused AllocatorExhausted L) _ xs (exhausts L size (stamp-exhausts L e)) refl room
 
   module _ (size : ℕ) (h : Head) (next : stampedHead (headIn L) ≡ stamped.Next h) where
     drawn : (nextIdIsM L ≡ false) × (h ≡ headIn (afterSnapshot L))
     drawn = stamp-draws L h next
 
-    pub answers-short : tooShortFor size (snapshotOf L) ≡ true → Performs (snapshot size) L (replyOf OutputTooShort) xs
+    pub answers-short : tooShortFor size (snapshotOf L) ≡ true → Performed (snapshot size) L (replyOf OutputTooShort) xs
     answers-short e = promise size L (refused OutputTooShort L) _ xs (is-short L size (drawn .0) e) refl room
 
     -- the snapshot of the stamped head and of the room's own counts is the ledger's
     pub answers-written : tooShortFor size (snapshotOf L) ≡ false → (s : Sizes) → s ≡ sizesOf xs
         → (bs ys : List ℕ) → bs ≡ snapshotBytes (record { version = h .«last_version»; active = s .live; rows = accountRows (L .places) })
-        → (length ys ≡ length xs) × (contentsOf ys ≡ withHead h (contentsOf xs)) → Performs (snapshot size) L (done (SnapshotBytes bs ∷ [])) ys
+        → (length ys ≡ length xs) × (contentsOf ys ≡ withHead h (contentsOf xs)) → Performed (snapshot size) L (done (SnapshotBytes bs ∷ [])) ys
     answers-written e s sizes bs ys written stored =
         let own = written ∙ (λ i. snapshotBytes (record { version = drawn .1 i .«last_version»; active = (sizes ∙ sizes-are xs L room) i .live; rows = accountRows (L .places) })) in
         promise size L _ _ ys (writes L size (drawn .0) e) (ap (λ bs. done (SnapshotBytes bs ∷ [])) own)

@@ -23,13 +23,13 @@ use Rattle.moves.specs.Moves.{kept, keptSeat}
 use Rattle.records.specs.Rows.{row}
 use Rattle.records.specs.Records.{sizesOf, placeOf}
 use Rattle.records.specs.declared.Place.{Place}
-use Rattle.contents.specs.Contents.{contentsOf, usedPlaces}
-use Rattle.contents.specs.Room.{placeWith, placeRecord, IsRoom}
-use Rattle.lookup.proofs.ByIndex.{all-read}
-use Rattle.lookup.proofs.InRoom.{used-places, loaded-place, name-in-room}
-use Rattle.lookup.proofs.SoundRoom.{places-are, sized, names-short}
-use Rattle.row_writer.specs.Rows.{rowInPlace, WritesRows}
-use Rattle.row_writer.proofs.Appending.{flatMap-append, flatMap-one}
+use Rattle.room.specs.Contents.{contentsOf, usedPlaces}
+use Rattle.room.specs.Room.{placeWith, placeRecord, IsRoom}
+use Rattle.rules.proofs.ByIndex.{all-read}
+use Rattle.room.proofs.InRoom.{used-places, loaded-place, name-in-room}
+use Rattle.room.proofs.SoundRoom.{places-are, sized, names-short}
+use Rattle.snapshot_writer.specs.Rows.{rowInPlace, WritesRows}
+use Rattle.rules.proofs.Lists.{flatMap-append, flatMap-one}
 use Rattle.snapshot_writer.specs.Output.{rowOfPlace, rowSize}
 
 -- ── how long rows are ──────────────────────────────────────────────────────────────────────────

@@ -7,7 +7,7 @@ use lib.ListN.{length, take, drop}
 use Rattle.rules.specs.AnswerNumbers.{Value, Amount, Identifier, Version, Fence, Count, Field, YesOrNo, TheName, SnapshotBytes, Reply, AllocatorExhausted, OutputTooShort, UnsoundLedger, done, replyOf}
 use Rattle.rules.specs.SnapshotsMigrationCertificates.{Row}
 use Rattle.records.specs.declared.Place.{Place}
-use Rattle.row_writer.specs.Rows.{rowInPlace}
+use Rattle.snapshot_writer.specs.Rows.{rowInPlace}
 use Rattle.snapshot_writer.specs.declared.Snapshotted.{Snapshotted}
 use Rattle.snapshot_writer.specs.declared.Snapshotted.the-variants as snapshotted
 

@@ -1,16 +1,14 @@
 // A snapshot of a ledger already known to be sound, written into lent output.
 use heads::Stamped;
 use records::Place;
-use row_writer::Extent;
 ghost use mathlib.Core.Path.{_≡_};
 ghost use mathlib.Core.Bool.{not};
-ghost use mathlib.Core.List.{List, _++_, flatMap};
+ghost use mathlib.Core.List.{List, [], _∷_, _++_, flatMap};
 ghost use Prim.Native.Nat.{ℕ, _+_, _≤_, _<_};
-ghost use lib.ListN.{length};
-ghost use Rattle.rules.specs.RoomAndSoundLedger.{Ledger};
+ghost use lib.ListN.{length, drop};
 ghost use Rattle.rules.specs.SnapshotsMigrationCertificates.{Row, rowBytes, accountRows, snapshotOf, tooShortFor, snapshot};
-ghost use Rattle.row_writer.specs.Rows.{WritesRows};
-ghost use Rattle.contents.specs.Room.{SoundRoom, IsRoom, Performs};
+ghost use Rattle.room.specs.Room.{SoundRoom, Performs, OfRoom};
+ghost use Rattle.snapshot_writer.specs.Rows.{rowInPlace, amountsBytes, headerBytes, WritesRows};
 ghost use Rattle.snapshot_writer.specs.Output.{rowSize, rowOfPlace, outputAfter, snapshotReply, SizeWithin};
 
 pub enum Snapshotted {
@@ -18,6 +16,58 @@ pub enum Snapshotted {
     AllocatorExhausted,
     OutputTooShort,
     UnsoundLedger,
+}
+
+// How many rows are written, and where they end.
+pub struct Extent {
+    pub rows: u64,
+    pub end: usize,
+}
+
+fn write_amounts(part: &mut [u8], place: Place)
+    requires { ⌜ length (now part) ≡ 32 ⌝ }
+    ensures { λ _. ⌜ now (part .exit) ≡ amountsBytes place ⌝ }
+{
+    big_endian::write8(&mut part[0..8], place.initial);
+    big_endian::write8(&mut part[8..16], place.remaining);
+    big_endian::write8(&mut part[16..24], place.reserved);
+    big_endian::write8(&mut part[24..32], place.committed);
+}
+
+fn write_row(part: &mut [u8], place: Place)
+    requires { ⌜ (length (now part) ≡ 33 + place .name .length) × (place .name .length ≤ 24) ⌝ }
+    ensures { λ _. ⌜ now (part .exit) ≡ rowBytes (rowInPlace place) ⌝ }
+{
+    let name = place.name;
+    let amounts = 1 + name.length as usize;
+    names::write_name(&mut part[..amounts], name);
+    write_amounts(&mut part[amounts..], place);
+}
+
+// One row more, behind those written.
+pub fn append_row(output: &mut [u8], extent: Extent, place: Place) -> Extent
+    requires room { ⌜ extent .end + (33 + place .name .length) ≤ length (now output) ⌝ }
+    requires short { ⌜ place .name .length ≤ 24 ⌝ }
+    requires few { ⌜ extent .rows < 256 ⌝ }
+    ensures { λ r. ⌜ ((before : List ℕ) (rs : List Row) → WritesRows rs before (now (output .entry)) extent → WritesRows (rs ++ rowInPlace place ∷ []) before (now (output .exit)) r) ⌝ }
+{
+    let name = place.name;
+    let from = extent.end;
+    let end = from + 33 + name.length as usize;
+    write_row(&mut output[from..end], place);
+    Extent {
+        rows: extent.rows + 1,
+        end,
+    }
+}
+
+pub fn write_header(output: &mut [u8], version: u64, active: u64, rows: u64)
+    requires { ⌜ 18 ≤ length (now output) ⌝ }
+    ensures { λ _. ⌜ now (output .exit) ≡ headerBytes version active rows ++ drop 18 (now (output .entry)) ⌝ }
+{
+    big_endian::write8(&mut output[0..8], version);
+    big_endian::write8(&mut output[8..16], active);
+    big_endian::write2(&mut output[16..18], rows);
 }
 
 // A name with a limit alone is not a row.
@@ -33,7 +83,7 @@ fn row_size(place: Place) -> usize
 
 fn rows_size(room: &[u8]) -> usize
     requires { ⌜ SoundRoom (now room) ⌝ }
-    ensures { λ r. ⌜ ((L : Ledger) → IsRoom (now (room .entry)) L → r ≡ length (flatMap rowBytes (accountRows (L .places)))) ⌝ }
+    ensures { λ r. ⌜ OfRoom (now (room .entry)) (λ L. r ≡ length (flatMap rowBytes (accountRows (L .places)))) ⌝ }
 {
     let sizes = records::load_sizes(room);
     let used = sizes.used as usize;
@@ -49,7 +99,7 @@ fn rows_size(room: &[u8]) -> usize
 // "output too short gives 22". Output with room for the longest names needs no pass over the places to tell.
 fn has_room(room: &[u8], size: usize) -> bool
     requires { ⌜ SoundRoom (now room) ⌝ }
-    ensures { λ r. ⌜ ((L : Ledger) → IsRoom (now (room .entry)) L → r ≡ not (tooShortFor size (snapshotOf L))) ⌝ }
+    ensures { λ r. ⌜ OfRoom (now (room .entry)) (λ L. r ≡ not (tooShortFor size (snapshotOf L))) ⌝ }
 {
     let sizes = records::load_sizes(room);
     let longest = 18 + 57 * (sizes.used as usize);
@@ -69,13 +119,13 @@ fn append_account(output: &mut [u8], extent: Extent, place: Place) -> Extent
     if place.account == 0 {
         return extent;
     }
-    row_writer::append_row(output, extent, place)
+    append_row(output, extent, place)
 }
 
 // "Accounts ascend by name": the places do. One pass over them.
 fn write_rows(room: &[u8], output: &mut [u8]) -> Extent
-    requires { ⌜ SoundRoom (now room) × ((L : Ledger) → IsRoom (now room) L → 18 + length (flatMap rowBytes (accountRows (L .places))) ≤ length (now output)) ⌝ }
-    ensures { λ r. ⌜ ((L : Ledger) → IsRoom (now (room .entry)) L → WritesRows (accountRows (L .places)) (now (output .entry)) (now (output .exit)) r) ⌝ }
+    requires { ⌜ SoundRoom (now room) × (OfRoom (now room) (λ L. 18 + length (flatMap rowBytes (accountRows (L .places))) ≤ length (now output))) ⌝ }
+    ensures { λ r. ⌜ OfRoom (now (room .entry)) (λ L. WritesRows (accountRows (L .places)) (now (output .entry)) (now (output .exit)) r) ⌝ }
 {
     let sizes = records::load_sizes(room);
     let used = sizes.used as usize;
@@ -92,7 +142,7 @@ fn write_rows(room: &[u8], output: &mut [u8]) -> Extent
 // over the places, and one more before it to measure them where the output might be too short.
 pub fn snapshot(room: &mut [u8], output: &mut [u8]) -> Snapshotted
     requires { ⌜ SoundRoom (now room) ⌝ }
-    ensures performs { λ r. ⌜ ((L : Ledger) → IsRoom (now (room .entry)) L → Performs (snapshot (length (now (output .entry)))) L (snapshotReply (now (output .exit)) r) (now (room .exit))) ⌝ }
+    ensures performs { λ r. ⌜ Performs (snapshot (length (now (output .entry)))) (now (room .entry)) (snapshotReply (now (output .exit)) r) (now (room .exit)) ⌝ }
     ensures output { λ r. ⌜ now (output .exit) ≡ outputAfter (snapshotReply (now (output .exit)) r) (now (output .entry)) ⌝ }
     ensures size { λ r. ⌜ SizeWithin (length (now (output .entry))) r ⌝ }
 {
@@ -104,7 +154,7 @@ pub fn snapshot(room: &mut [u8], output: &mut [u8]) -> Snapshotted
     }
     let sizes = records::load_sizes(room);
     let extent = write_rows(room, output);
-    row_writer::write_header(output, head.last_version, sizes.live, extent.rows);
+    write_header(output, head.last_version, sizes.live, extent.rows);
     tables::put_head(room, head);
     Snapshotted::Written(extent.end)
 }

@@ -6,7 +6,7 @@ use Prim.Native.Nat.{ℕ}
 use borrow.Author.Tests.{not-true, not-false}
 use Rattle.rules.specs.RoomAndSoundLedger.{Ledger}
 use Rattle.rules.specs.AnswerNumbers.{Reply, UnsoundLedger, replyOf, Outcome}
-use Rattle.contents.specs.Room.{IsRoom, SoundRoom, Performs, Answers}
+use Rattle.room.specs.Room.{IsRoom, SoundRoom, Performed, Answers}
 use Rattle.soundness.specs.Facts.{Decides}
 
 module _ (f : Ledger → Outcome) (before : List ℕ) (r : Bool) (decides : Decides (SoundRoom before) r) where
@@ -20,7 +20,7 @@ module _ (f : Ledger → Outcome) (before : List ℕ) (r : Bool) (decides : Deci
   pub known : not r ≡ false → SoundRoom before
   known e = decides .holds (not-false r e)
 
-  pub answered : not r ≡ false → (reply : Reply) (after : List ℕ) → ((L : Ledger) → IsRoom before L → Performs f L reply after) → Answers f before reply after
+  pub answered : not r ≡ false → (reply : Reply) (after : List ℕ) → ((L : Ledger) → IsRoom before L → Performed f L reply after) → Answers f before reply after
   answered e reply after performs = record {
     sound-room = performs;
     other = λ no-room. absurd (let s = known e in no-room (s .ledger) (s .is-room));

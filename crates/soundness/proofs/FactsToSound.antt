@@ -21,9 +21,9 @@ use Rattle.records.specs.Records.{sizesOf, placeOf, bookingOf}
 use Rattle.records.proofs.Rows.{table-length}
 use Rattle.records.specs.declared.Place.{Place}
 use Rattle.records.specs.declared.Booking.{Booking}
-use Rattle.contents.specs.Contents.{Contents, contentsOf, baseOf, usedPlaces, liveBookings, emptyPlace, emptyBooking}
-use Rattle.contents.specs.Room.{placeRecord, bookingRecord, filled, contentsIn, SoundRoom}
-use Rattle.contents.proofs.Decoding.{placeIn, nowhere, bookingIn, ledgerIn}
+use Rattle.room.specs.Contents.{Contents, contentsOf, baseOf, usedPlaces, liveBookings, emptyPlace, emptyBooking}
+use Rattle.room.specs.Room.{placeRecord, bookingRecord, filled, contentsIn, SoundRoom}
+use Rattle.room.proofs.Decoding.{placeIn, nowhere, bookingIn, ledgerIn}
 use Rattle.soundness.specs.Facts.{HeadSound, PlaceSound, BookingSound, shareOf, TablesSound, RoomFacts}
 use Rattle.soundness.proofs.Indices.{at-index, at-indices, own-part, sum-images, at-mapped, map-back}
 use Rattle.soundness.proofs.Owners.{nameAt, number-at, reserved-at}

@@ -17,8 +17,8 @@ use Rattle.records.specs.declared.Sizes.{Sizes}
 use Rattle.records.proofs.Records.{bytes-of-place, bytes-of-booking, pair-length}
 use Rattle.records.proofs.Rows.{put-length}
 use Rattle.records.proofs.Room.{sizes-stored, head-stored}
-use Rattle.contents.specs.Contents.{contents, contentsOf, baseOf, roomSize, emptyPlace, emptyBooking}
-use Rattle.contents.specs.Room.{filled, contentsIn}
+use Rattle.room.specs.Contents.{contents, contentsOf, baseOf, roomSize, emptyPlace, emptyBooking}
+use Rattle.room.specs.Room.{filled, contentsIn}
 use Rattle.soundness.proofs.Zeros.{zeros, row-zeros, zeros-empty}
 use Rattle.soundness.proofs.Parts.{empty-place, empty-booking, contents-with}
 

@@ -10,8 +10,8 @@ use Rattle.names.proofs.Storing.{stored-spelled, stored-is-stored}
 use Rattle.moves.specs.Moves.{accountOf, meaning, kept, keptSeat}
 use Rattle.moves.specs.declared.Seat.{Seat}
 use Rattle.records.specs.declared.Place.{Place}
-use Rattle.contents.specs.Room.{placeRecord}
-use Rattle.contents.proofs.Decoding.{placeIn}
+use Rattle.room.specs.Room.{placeRecord}
+use Rattle.room.proofs.Decoding.{placeIn}
 use Rattle.soundness.specs.Facts.{seatAt, PlaceSound}
 
 -- what an account has reserved; without one, nothing

@@ -15,8 +15,8 @@ use Rattle.rules.proofs.Lists.{all-map}
 use Rattle.rules.proofs.Names.{same-self, same-false, other, lt-other}
 use Rattle.rules.proofs.Places.{Over}
 use Rattle.records.specs.declared.Booking.{Booking}
-use Rattle.contents.specs.Room.{placeNumber}
-use Rattle.contents.proofs.Decoding.{nowhere, bookingIn}
+use Rattle.room.specs.Room.{placeNumber}
+use Rattle.room.proofs.Decoding.{nowhere, bookingIn}
 use Rattle.soundness.specs.Facts.{shareOf}
 use Rattle.soundness.proofs.Indices.{at-index, sum-images}
 

@@ -15,7 +15,7 @@ use Rattle.records.specs.declared.Head.{Head}
 use Rattle.records.specs.declared.Sizes.{Sizes}
 use Rattle.records.proofs.Records.{bytes-of-place, bytes-of-booking}
 use Rattle.records.proofs.Rows.{table-take}
-use Rattle.contents.specs.Contents.{Contents, contents, contentsOf, baseOf, emptyPlace, emptyBooking}
+use Rattle.room.specs.Contents.{Contents, contents, contentsOf, baseOf, emptyPlace, emptyBooking}
 use Rattle.soundness.specs.Facts.{SizesSound, PlacesSound, BookingsSound, BookingSound, TablesSound, shareOf}
 use Rattle.soundness.specs.Steps.{ZeroBelow, Noted, Booked}
 use Rattle.soundness.proofs.Zeros.{cleared, clear}

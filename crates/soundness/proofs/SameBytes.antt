@@ -11,9 +11,9 @@ use Rattle.rules.specs.RoomAndSoundLedger.{Ledger, IsByte, Sound, made, fresh}
 use Rattle.rules.specs.AnswerNumbers.{Reply, Outcome}
 use Rattle.rules.proofs.SnapshotSoundness.{fresh-sound}
 use Rattle.rules.proofs.Tests.{by-bool}
-use Rattle.contents.specs.Contents.{roomSize}
-use Rattle.contents.specs.Room.{IsRoom, SoundRoom, Answers}
-use Rattle.contents.proofs.Decoding.{canonical}
+use Rattle.room.specs.Contents.{roomSize}
+use Rattle.room.specs.Room.{IsRoom, SoundRoom, Answers}
+use Rattle.room.proofs.Decoding.{canonical}
 use Rattle.soundness.specs.Facts.{Decides}
 use Rattle.soundness.specs.declared.Made.{Made}
 use Rattle.soundness.specs.Making.{Makes}

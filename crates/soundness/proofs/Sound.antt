@@ -6,7 +6,7 @@ use mathlib.Core.List.{List}
 use Prim.Native.Nat.{ℕ}
 use Rattle.rules.specs.Lists.{All}
 use Rattle.rules.specs.RoomAndSoundLedger.{IsByte}
-use Rattle.contents.specs.Room.{SoundRoom}
+use Rattle.room.specs.Room.{SoundRoom}
 use Rattle.soundness.specs.Facts.{Decides, RoomFacts}
 use Rattle.soundness.proofs.FactsToSound.{facts-sound}
 use Rattle.soundness.proofs.SoundToFacts.{sound-facts}

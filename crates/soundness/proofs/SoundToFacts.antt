@@ -18,10 +18,10 @@ use Rattle.rules.proofs.SoundByName.{AccountSound, by-name}
 use Rattle.names.proofs.Storing.{spelled-stored}
 use Rattle.records.specs.declared.Place.{Place}
 use Rattle.records.specs.declared.Booking.{Booking}
-use Rattle.contents.specs.Contents.{Contents, contentsOf, roomSize, emptyPlace, emptyBooking}
-use Rattle.contents.specs.Room.{placeRecord, bookingRecord, filled, sizesIn, headIn, contentsIn, IsRoom, SoundRoom}
-use Rattle.contents.proofs.Filled.{used-part}
-use Rattle.contents.proofs.Decoding.{nowhere, bookingIn, number-name}
+use Rattle.room.specs.Contents.{Contents, contentsOf, roomSize, emptyPlace, emptyBooking}
+use Rattle.room.specs.Room.{placeRecord, bookingRecord, filled, sizesIn, headIn, contentsIn, IsRoom, SoundRoom}
+use Rattle.room.proofs.Filled.{used-part}
+use Rattle.room.proofs.Decoding.{nowhere, bookingIn, number-name}
 use Rattle.soundness.specs.Facts.{SizesSound, HeadSound, PlaceSound, NameBefore, PlacesSound, BookingSound, BookingsSound, ReservedIsSum, TablesSound, RoomFacts}
 use Rattle.soundness.proofs.Indices.{at-index, at-indices, sum-images, at-mapped, map-back}
 use Rattle.soundness.proofs.Owners.{number-below, reserved-at}

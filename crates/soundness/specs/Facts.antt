@@ -16,7 +16,7 @@ use Rattle.records.specs.declared.Place.{Place}
 use Rattle.records.specs.declared.Booking.{Booking}
 use Rattle.records.specs.declared.Head.{Head}
 use Rattle.records.specs.declared.Sizes.{Sizes}
-use Rattle.contents.specs.Contents.{Contents, contentsOf, roomSize, usedPlaces, liveBookings, emptyPlace, emptyBooking}
+use Rattle.room.specs.Contents.{Contents, contentsOf, roomSize, usedPlaces, liveBookings, emptyPlace, emptyBooking}
 
 -- an answer of a check that says exactly whether something holds
 pub record Decides (P : Type 0) (r : Bool) : Type 0 where

@@ -6,8 +6,8 @@ use mathlib.Core.Option.{none, some}
 use Prim.Native.Nat.{ℕ}
 use lib.ListN.{length}
 use Rattle.rules.specs.RoomAndSoundLedger.{Ledger, made}
-use Rattle.contents.specs.Contents.{contentsOf, roomSize}
-use Rattle.contents.specs.Room.{contentsIn}
+use Rattle.room.specs.Contents.{contentsOf, roomSize}
+use Rattle.room.specs.Room.{contentsIn}
 use Rattle.soundness.specs.declared.Made.{Made}
 use Rattle.soundness.specs.declared.Made.the-variants.{Done, UnsoundLedger}
 

@@ -10,7 +10,7 @@ use lib.Seq.{take-suc, drop-cons, append-snoc, split-at, drop-append-le, set-at,
 use borrow.Author.Tests.{le-leb, lt-leb, lt-ltb, le-ltb}
 use Rattle.rules.specs.Lists.{All}
 use Rattle.records.specs.declared.Booking.{Booking}
-use Rattle.contents.specs.Contents.{opened, closed, renumbered, withOwner, raised, lowered}
+use Rattle.room.specs.Contents.{opened, closed, renumbered, withOwner, raised, lowered}
 use Rattle.tables.specs.Steps.{movedUp, movedDown}
 
 module _ {A : Type 0} where

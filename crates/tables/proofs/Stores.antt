@@ -17,7 +17,7 @@ use Rattle.records.specs.Records.{placeOf, placeBytes, PlaceFits, bookingOf, bo
 use Rattle.records.proofs.Rows.{row-length, put-length, table-length, table-at, table-apart}
 use Rattle.records.proofs.Records.{place-length, booking-length, booking-fits, head-length, pair-length}
 use Rattle.records.proofs.Room.{Holds, head-apart, sizes-apart, place-stored, booking-stored, head-stored, counts-stored}
-use Rattle.contents.specs.Contents.{Contents, contents, contentsOf, Sized, baseOf, roomSize, withCounts, withHead, withPlace, renumbered}
+use Rattle.room.specs.Contents.{Contents, contents, contentsOf, Sized, baseOf, roomSize, withCounts, withHead, withPlace, renumbered}
 use Rattle.tables.specs.Steps.{Becomes, onPlaces, onBookings, onCounts, withBooking, movedDown}
 use Rattle.tables.proofs.Gap.{gap-closed}
 use Rattle.tables.proofs.Moving.{other-default, renumbered-read, renumbered-turn, renumbered-kept}

@@ -6,7 +6,7 @@ use lib.ListN.{set}
 use Rattle.records.specs.declared.Place.{Place}
 use Rattle.records.specs.declared.Booking.{Booking}
 use Rattle.records.specs.declared.Sizes.{Sizes}
-use Rattle.contents.specs.Contents.{Contents, opened, closed, renumbered, raised, lowered, emptyPlace, emptyBooking, insertedPlace, freedPlace, appendedBooking, removedBooking}
+use Rattle.room.specs.Contents.{Contents, opened, closed, renumbered, raised, lowered, emptyPlace, emptyBooking, insertedPlace, freedPlace, appendedBooking, removedBooking}
 use Rattle.tables.specs.Steps.{onPlaces, onBookings, onCounts}
 
 module _ (c : Contents) (t : Sizes) (e : t ≡ c .sizes) where

@@ -5,7 +5,7 @@ use Prim.Native.Nat.{ℕ, pred}
 use lib.ListN.{length, getD, set}
 use Rattle.records.specs.declared.Place.{Place}
 use Rattle.records.specs.declared.Booking.{Booking}
-use Rattle.contents.specs.Contents.{Contents, contents, contentsOf, withCounts, opened, closed}
+use Rattle.room.specs.Contents.{Contents, contents, contentsOf, withCounts, opened, closed}
 
 -- a room of the same length whose contents are changed so
 abbrev pub Becomes : (Contents → Contents) → (before after : List ℕ) → Type 0

@@ -8,7 +8,7 @@ ghost use mathlib.Core.List.{_++_};
 ghost use Prim.Native.Nat.{_+_, _-_, _*_, _≤_, _<_};
 ghost use lib.ListN.{length, take, drop};
 ghost use Rattle.rules.specs.Lists.{All};
-ghost use Rattle.contents.specs.Contents.{contentsOf, Sized, baseOf, emptyPlace, emptyBooking, withOwner, raised, lowered, renumbered, liveBookings, withHead, withPlace, insertedPlace, freedPlace, appendedBooking, removedBooking};
+ghost use Rattle.room.specs.Contents.{contentsOf, Sized, baseOf, emptyPlace, emptyBooking, withOwner, raised, lowered, renumbered, liveBookings, withHead, withPlace, insertedPlace, freedPlace, appendedBooking, removedBooking};
 ghost use Rattle.tables.specs.Steps.{Becomes, onPlaces, onBookings, movedUp, movedDown};
 
 pub fn put_head(room: &mut [u8], head: Head)

@@ -3,14 +3,13 @@ use names::Name;
 use numbers::Microcents;
 use totals::Fitted;
 ghost use mathlib.Core.Path.{_≡_};
-ghost use mathlib.Core.Option.{some};
 ghost use Prim.Native.Nat.{ℕ, _≤_};
 ghost use mathlib.Core.List.{List, []};
 ghost use Rattle.rules.specs.Lists.{any};
 ghost use Rattle.rules.specs.RoomAndSoundLedger.{same};
-ghost use Rattle.rules.specs.SnapshotsMigrationCertificates.{Snapshot, snapshotOfBytes, rowConservation, conservation, rowValidation, rowsValidation, validation, status};
+ghost use Rattle.rules.specs.SnapshotsMigrationCertificates.{rowConservation, conservation, rowValidation, rowsValidation, validation, status};
 ghost use Rattle.names.specs.Names.{spelled};
-ghost use Rattle.snapshot_reader.specs.Standing.{IsSnapshot, ShortNames, RowOf};
+ghost use Rattle.snapshot_reader.specs.Standing.{IsSnapshot, ShortNames, RowOf, OfSnapshot};
 ghost use Rattle.validation.specs.Judgement.{refusalOf, refusalIn, judgedReply, nameless, rowWith, seenIn};
 
 // What is said of a snapshot: a check that is refused hands its refusal straight up. A name that it carries stands beside it, since an enum holds no array.
@@ -96,7 +95,7 @@ fn row_conservation(bytes: &[u8], at: usize) -> Verdict
 // "The first bad row decides." One pass over the rows.
 pub fn conservation(bytes: &[u8]) -> Judged
     requires { ⌜ ShortNames (now bytes) ⌝ }
-    ensures refusal { λ r. ⌜ ((s : Snapshot) → snapshotOfBytes (now (bytes .entry)) ≡ some s → refusalIn r ≡ conservation (s .rows)) ⌝ }
+    ensures refusal { λ r. ⌜ OfSnapshot (now (bytes .entry)) (λ s. refusalIn r ≡ conservation (s .rows)) ⌝ }
     ensures short { λ r. ⌜ r .name .length ≤ 24 ⌝ }
 {
     let mut at = 18;
@@ -161,7 +160,7 @@ fn row_validation(bytes: &[u8], at: usize) -> Verdict
 // One pass over the rows, in which each name is compared with those before it: at most 256 x 255 / 2 comparisons.
 fn rows_validation(bytes: &[u8]) -> Judged
     requires { ⌜ ShortNames (now bytes) ⌝ }
-    ensures refusal { λ r. ⌜ ((s : Snapshot) → snapshotOfBytes (now (bytes .entry)) ≡ some s → refusalIn r ≡ rowsValidation [] (s .rows)) ⌝ }
+    ensures refusal { λ r. ⌜ OfSnapshot (now (bytes .entry)) (λ s. refusalIn r ≡ rowsValidation [] (s .rows)) ⌝ }
     ensures short { λ r. ⌜ r .name .length ≤ 24 ⌝ }
 {
     let mut at = 18;
@@ -179,7 +178,7 @@ fn rows_validation(bytes: &[u8]) -> Judged
 // "active count above 0 gives 10; then for each row ..; then conservation over all rows": two passes over the rows.
 pub fn validation(bytes: &[u8]) -> Judged
     requires { ⌜ ShortNames (now bytes) ⌝ }
-    ensures refusal { λ r. ⌜ ((s : Snapshot) → snapshotOfBytes (now (bytes .entry)) ≡ some s → refusalIn r ≡ validation s) ⌝ }
+    ensures refusal { λ r. ⌜ OfSnapshot (now (bytes .entry)) (λ s. refusalIn r ≡ validation s) ⌝ }
     ensures short { λ r. ⌜ r .name .length ≤ 24 ⌝ }
 {
     let active = snapshot_reader::active(bytes);
@@ -197,7 +196,7 @@ pub fn validation(bytes: &[u8]) -> Judged
 // "conservation status of a snapshot", 19 before it: two passes over the rows.
 pub fn status(bytes: &[u8]) -> Judged
     requires { ⌜ IsSnapshot (now bytes) ⌝ }
-    ensures answer { λ r. ⌜ ((s : Snapshot) → snapshotOfBytes (now (bytes .entry)) ≡ some s → judgedReply r ≡ status s) ⌝ }
+    ensures answer { λ r. ⌜ OfSnapshot (now (bytes .entry)) (λ s. judgedReply r ≡ status s) ⌝ }
     ensures short { λ r. ⌜ r .name .length ≤ 24 ⌝ }
 {
     if snapshot_reader::has_long_name(bytes) {

@@ -3,7 +3,7 @@ use mathlib.Core.Path.{_≡_, refl, sym, ap}
 use Prim.Native.Nat.{ℕ}
 use Rattle.rules.specs.RoomAndSoundLedger.{InRange, fresh, made}
 use Rattle.rules.proofs.Tests.{by-option}
-use Rattle.contents.specs.Contents.{roomSize}
+use Rattle.room.specs.Contents.{roomSize}
 use Rattle.soundness.proofs.Fresh.{made-some, made-fresh}
 use Rattle.zatovola.specs.Interface.{bytesOfRoom}
 

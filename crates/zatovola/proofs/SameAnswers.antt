@@ -12,8 +12,8 @@ use Rattle.rules.specs.AnswerNumbers.{Lent, sound, unsound, onLent}
 use Rattle.rules.specs.Frames.{Operation, onAccount, takeSnapshot, certifyLedger, proveConservation, restoreFrom, recoverFrom, judge, migrateTo, certify, answer, answerOr23}
 use Rattle.rules.proofs.Tests.{by-option, equal-or-not}
 use Rattle.rules.proofs.Names.{same-false, same-or-not}
-use Rattle.contents.specs.Contents.{roomSize}
-use Rattle.contents.proofs.Decoding.{canonical}
+use Rattle.room.specs.Contents.{roomSize}
+use Rattle.room.proofs.Decoding.{canonical}
 use Rattle.soundness.specs.Making.{Untouched}
 use Rattle.soundness.proofs.Deciding.{less-or-not}
 use Rattle.soundness.proofs.SameBytes.{made-is-room}

@@ -7,7 +7,7 @@ use lib.ListN.{length}
 use Rattle.rules.specs.RoomAndSoundLedger.{Ledger}
 use Rattle.rules.specs.AnswerNumbers.{Lent}
 use Rattle.rules.specs.Frames.{Operation}
-use Rattle.contents.specs.Contents.{roomSize}
+use Rattle.room.specs.Contents.{roomSize}
 use Rattle.soundness.specs.Making.{Makes}
 use Rattle.soundness.specs.declared.Made.{Made}
 use Rattle.soundness.specs.declared.Made.the-variants.{Done, UnsoundLedger}

@@ -5,9 +5,8 @@ ghost use mathlib.Core.Path.{_≡_};
 ghost use Prim.Native.Nat.{_≤_};
 ghost use lib.ListN.{length};
 ghost use Rattle.rules.specs.RoomAndSoundLedger.{made};
-ghost use Rattle.rules.specs.AnswerNumbers.{Lent};
 ghost use Rattle.rules.specs.Frames.{operationOf};
-ghost use Rattle.frames.specs.Answering.{IsLent};
+ghost use Rattle.frames.specs.Answering.{OfLent};
 ghost use Rattle.lines.specs.Batching.{Batches};
 ghost use Rattle.zatovola.specs.Interface.{bytesOfRoom, MakesNumber, FrameAnswered, progress};
 
@@ -40,9 +39,9 @@ pub extern "C" fn zatovola_make(room: &mut [u8], names: u64, reservations: u64) 
 // A frame's bytes to its answer's bytes, and how many these are: 0, and nothing changed, where the output has no room for the longest answer to this frame.
 #[no_mangle]
 pub extern "C" fn zatovola_answer(room: &mut [u8], frame: &[u8], output: &mut [u8]) -> usize
-    ensures { λ r. ⌜ ((l : Lent) → IsLent (now (room .entry)) l → FrameAnswered (operationOf (now (frame .entry))) l (now (room .entry)) (now (room .exit)) (now (output .entry)) (now (output .exit)) r) ⌝ }
+    ensures { λ r. ⌜ OfLent (now (room .entry)) (λ l. FrameAnswered (operationOf (now (frame .entry))) l (now (room .entry)) (now (room .exit)) (now (output .entry)) (now (output .exit)) r) ⌝ }
 {
-    let operation = operations::read(frame);
+    let operation = frame_reader::read(frame);
     if output.len() < frames::room_for(operation) {
         return 0;
     }
@@ -58,7 +57,7 @@ pub extern "C" fn zatovola_batch(
     output: &mut [u8],
     used: &mut usize,
 ) -> usize
-    ensures batches { λ r. ⌜ ((l : Lent) → IsLent (now (room .entry)) l → Batches l (now (input .entry)) (now (room .entry)) (now (room .exit)) (now (output .entry)) (now (output .exit)) (progress (now (used .exit)) r)) ⌝ }
+    ensures batches { λ r. ⌜ OfLent (now (room .entry)) (λ l. Batches l (now (input .entry)) (now (room .entry)) (now (room .exit)) (now (output .entry)) (now (output .exit)) (progress (now (used .exit)) r)) ⌝ }
     ensures within { λ r. ⌜ (now (used .exit) ≤ length (now (input .entry))) × (r ≤ length (now (output .entry))) ⌝ }
 {
     let answered = lines::batch(room, input, output);

@@ -11,10 +11,10 @@ use Rattle.numbers.proofs.Bytes.{all-bytes}
 use Rattle.moves.specs.Moves.{accountOf, limitingMove, LimitingSound}
 use Rattle.moves.specs.declared.Limiting.{Limiting}
 use Rattle.moves.specs.declared.Limiting.the-variants.{Negative, Changed}
-use Rattle.contents.specs.Contents.{contentsOf, usedPlaces}
-use Rattle.contents.specs.Room.{IsRoom, Performs}
-use Rattle.writing.specs.declared.Written.{Written}
-use Rattle.writing.specs.declared.Written.the-variants.{Done, NamesFull}
+use Rattle.room.specs.Contents.{contentsOf, usedPlaces}
+use Rattle.room.specs.Room.{IsRoom, Performed}
+use Rattle.seats.specs.declared.Written.{Written}
+use Rattle.seats.specs.declared.Written.the-variants.{Done, NamesFull}
 use Rattle.accounts.proofs.Writes.{amount-fits}
 use Rattle.accounts.proofs.Performing.{OnName, Seen, found-in, searchable, seen-sound, ready, too-long, refuses, answers, writtenReply, limiting}
 use Rattle.accounts.proofs.limit.Statement.{statement}
@@ -68,7 +68,7 @@ write-seat-requires c κs =
 
 written : (c : tie.After-write-seat) →
     let k = entry (c .before .before .before .before .before .before) in
-    (L : Ledger) → IsRoom (k .before .before .args .room .now) L → (v : Written) → c .write-seat .result ≡ v → Performs (op k .carry) L (writtenReply [] v) (c .write-seat .last .0)
+    (L : Ledger) → IsRoom (k .before .before .args .room .now) L → (v : Written) → c .write-seat .result ≡ v → Performed (op k .carry) L (writtenReply [] v) (c .write-seat .last .0)
 written c L room v e =
     let t = c .before .before .before in
     let d = t .before .before in

@@ -12,8 +12,8 @@ use Rattle.moves.specs.Moves.{accountOf, meaning, toppingUpMove, ToppingUpSound
 use Rattle.moves.specs.declared.ToppingUp.{ToppingUp}
 use Rattle.moves.specs.declared.ToppingUp.the-variants.{Invalid, Missing, Overflow, Grown}
 use Rattle.moves.specs.declared.Seat.{Seat}
-use Rattle.contents.specs.Contents.{contentsOf, usedPlaces}
-use Rattle.contents.specs.Room.{Performs}
+use Rattle.room.specs.Contents.{contentsOf, usedPlaces}
+use Rattle.room.specs.Room.{Performed}
 use Rattle.accounts.proofs.Writes.{top-up-writes, amount-fits, seat-small}
 use Rattle.accounts.proofs.Performing.{OnName, Seen, found-in, searchable, seen-sound, ready, too-long, refuses, writes-held, toppingUp}
 use Rattle.accounts.proofs.top_up.Statement.{statement}
@@ -96,7 +96,7 @@ returns-5 c L room =
     let move = moves d (Grown (grown t)) (t .decided .given .1) in
     let has = top-up-writes z (accountOf (k .seat-at .result)) (k .seat-at .result .limit) (carried t) (meaning (grown t)) move .0 in
     let done = writes-held (op (entry k)) L room (seen k) (carried t) (grown t) move (w .write-seat .last .0) (w .write-seat .result) (w .write-seat .ensures L room) has in
-    subst (λ zs. Performs (op (entry k) .carry) L (doneWith zs) (w .write-seat .last .0)) (sym (λ i. z ∷ c .before .amount .ensures i ∷ c .amount2 .ensures i ∷ [])) done
+    subst (λ zs. Performed (op (entry k) .carry) L (doneWith zs) (w .write-seat .last .0)) (sym (λ i. z ∷ c .before .amount .ensures i ∷ c .amount2 .ensures i ∷ [])) done
 
 pub top-up-spec : {M : Type 1} → statement M
 top-up-spec =

@@ -8,8 +8,8 @@ use lib.IntN.{pos}
 use Rattle.rules.specs.RoomAndSoundLedger.{Ledger, committedTotal}
 use Rattle.rules.specs.SnapshotsMigrationCertificates.{accountRows, snapshotOf, totalsFit, certificate, certificateOfLedger}
 use Rattle.rules.proofs.SnapshotSoundness.{committed-rows-total}
-use Rattle.contents.specs.Room.{IsRoom}
-use Rattle.lookup.proofs.SoundRoom.{sized}
+use Rattle.room.specs.Room.{IsRoom}
+use Rattle.room.proofs.SoundRoom.{sized}
 use Rattle.certificates.specs.Certified.{rotationOf, summaryOf}
 use Rattle.certificates.proofs.Certifying.{since-small}
 use Rattle.certificates.proofs.Summarizing.{Taking, told-exhausted, told-taken}

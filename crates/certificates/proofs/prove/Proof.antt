@@ -5,8 +5,8 @@ use Prim.Native.Nat.{ℕ}
 use borrow.Author.Needs.{needs}
 use Rattle.rules.specs.RoomAndSoundLedger.{Ledger}
 use Rattle.rules.specs.SnapshotsMigrationCertificates.{accountRows, conservationProof}
-use Rattle.contents.specs.Room.{IsRoom}
-use Rattle.lookup.proofs.SoundRoom.{sized}
+use Rattle.room.specs.Room.{IsRoom}
+use Rattle.room.proofs.SoundRoom.{sized}
 use Rattle.certificates.specs.Certified.{summaryOf}
 use Rattle.certificates.specs.declared.Summary.{Summary}
 use Rattle.certificates.proofs.Certifying.{told-outside, told-fit}

@@ -6,9 +6,9 @@ use native.Mathlib.Omega.{arith}
 use borrow.Author.Needs.{needs}
 use lib.IntN.{pos}
 use Rattle.records.specs.Records.{sizesOf}
-use Rattle.contents.specs.Contents.{Sized}
-use Rattle.contents.specs.Room.{IsRoom}
-use Rattle.lookup.proofs.SoundRoom.{sized}
+use Rattle.room.specs.Contents.{Sized}
+use Rattle.room.specs.Room.{IsRoom}
+use Rattle.room.proofs.SoundRoom.{sized}
 use Rattle.certificates.specs.Certified.{bothFitted}
 use Rattle.certificates.proofs.Adding.{may-add}
 use Rattle.certificates.proofs.OverPlaces.{initials, commits, PlacesAdded, places-none, places-next, places-all, AmountsSmall, amounts-small}

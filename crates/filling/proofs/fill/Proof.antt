@@ -4,8 +4,8 @@ use mathlib.Core.Option.{some}
 use borrow.Author.Needs.{needs}
 use Rattle.rules.specs.RoomAndSoundLedger.{Ledger, fenceOf, fresh}
 use Rattle.rules.specs.SnapshotsMigrationCertificates.{Snapshot, snapshotOfBytes}
-use Rattle.contents.specs.Room.{IsRoom}
-use Rattle.lookup.proofs.SoundRoom.{sized}
+use Rattle.room.specs.Room.{IsRoom}
+use Rattle.room.proofs.SoundRoom.{sized}
 use Rattle.filling.specs.Filling.{PutsRows}
 use Rattle.filling.proofs.Renewing.{made-anew, empty-takes, head-written}
 use Rattle.filling.proofs.fill.Statement.{statement}

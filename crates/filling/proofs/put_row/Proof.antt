@@ -5,8 +5,8 @@ use borrow.Author.Needs.{needs}
 use Rattle.rules.specs.AccountRules.{seated, withPlaces}
 use Rattle.rules.proofs.Tests.{true-false}
 use Rattle.moves.specs.Moves.{meaning}
-use Rattle.contents.specs.Room.{contentsIn}
-use Rattle.lookup.proofs.SoundRoom.{sized, names-short}
+use Rattle.room.specs.Room.{contentsIn}
+use Rattle.room.proofs.SoundRoom.{sized, names-short}
 use Rattle.filling.proofs.put_row.Statement.{statement}
 use Rattle.filling.proofs.put_row.Tie as tie
 

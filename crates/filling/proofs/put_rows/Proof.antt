@@ -12,7 +12,7 @@ use Rattle.rules.specs.RoomAndSoundLedger.{M, Ledger}
 use Rattle.rules.specs.AccountRules.{natural}
 use Rattle.rules.specs.SnapshotsMigrationCertificates.{Snapshot, snapshotOfBytes}
 use Rattle.numbers.proofs.Bytes.{all-bytes}
-use Rattle.contents.specs.Room.{IsRoom}
+use Rattle.room.specs.Room.{IsRoom}
 use Rattle.snapshot_reader.specs.Standing.{Passed, ReadsRow}
 use Rattle.snapshot_reader.proofs.Header.{header}
 use Rattle.snapshot_reader.proofs.Rows.{AtRow, start, at-row, stands, advance, finished}

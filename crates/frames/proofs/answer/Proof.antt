@@ -3,7 +3,7 @@ use mathlib.Core.Path.{subst}
 use mathlib.Core.Bool.{Bool, true, false}
 use borrow.Author.Needs.{needs}
 use Rattle.rules.specs.AnswerNumbers.{sound, unsound}
-use Rattle.operations.specs.Operations.{operationIn}
+use Rattle.frame_reader.specs.Operations.{operationIn}
 use Rattle.frames.specs.Answering.{Known}
 use Rattle.frames.proofs.Arms.{still-unsound, left-alone}
 use Rattle.frames.proofs.answer.Statement.{statement}

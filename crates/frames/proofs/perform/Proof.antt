@@ -8,10 +8,10 @@ use lib.ListN.{length, take, drop}
 use Rattle.rules.specs.RoomAndSoundLedger.{Ledger}
 use Rattle.rules.specs.AnswerNumbers.{sound}
 use Rattle.rules.specs.Frames.{restoreFrom, recoverFrom}
-use Rattle.contents.specs.Room.{SoundRoom}
+use Rattle.room.specs.Room.{SoundRoom}
 use Rattle.snapshot_reader.specs.Standing.{IsSnapshot}
-use Rattle.operations.specs.declared.Frame.{Frame}
-use Rattle.operations.specs.Operations.{operationIn, StandsFrom, PartsWithin}
+use Rattle.frame_reader.specs.declared.Frame.{Frame}
+use Rattle.frame_reader.specs.Operations.{operationIn, StandsFrom, PartsWithin}
 use Rattle.frames.specs.Answering.{AnswersOperation, roomFor}
 use Rattle.frames.proofs.Arms.{is-snapshot, answers-supplied, at-least, takes-none, left-alone}
 use Rattle.frames.proofs.perform.Statement.{statement}

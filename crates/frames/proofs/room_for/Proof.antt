@@ -2,7 +2,7 @@
 use mathlib.Core.Path.{sym, ap, subst, _∙_}
 use borrow.Author.Needs.{needs}
 use Rattle.rules.specs.Frames.{migrateTo}
-use Rattle.operations.specs.Operations.{operationIn, PartsWithin}
+use Rattle.frame_reader.specs.Operations.{operationIn, PartsWithin}
 use Rattle.frames.specs.Answering.{roomFor}
 use Rattle.frames.proofs.Arms.{supplied-is, short-answer}
 use Rattle.frames.proofs.room_for.Statement.{statement}

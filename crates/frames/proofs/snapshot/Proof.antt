@@ -10,7 +10,7 @@ use Rattle.rules.specs.RoomAndSoundLedger.{Ledger}
 use Rattle.rules.specs.AnswerNumbers.{AllocatorExhausted, replyOf, Outcome}
 use Rattle.rules.specs.SnapshotsMigrationCertificates.{snapshot}
 use Rattle.rules.specs.Frames.{longestSnapshot, answer}
-use Rattle.contents.specs.Room.{IsRoom, Performs}
+use Rattle.room.specs.Room.{IsRoom, Performed}
 use Rattle.answer_bytes.specs.Writing.{WritesReply}
 use Rattle.snapshot_writer.specs.Output.{outputAfter, snapshotReply, SizeWithin}
 use Rattle.snapshot_writer.specs.declared.Snapshotted.the-variants as snapshotted
@@ -34,7 +34,7 @@ module _ (c : tie.After-snapshot) where
   room = omega (arith, start .pre .1)
 
   -- the part has room for the longest snapshot
-  performs : (L : Ledger) → IsRoom (start .args .room .now) L → Performs (snapshot longestSnapshot) L (snapshotReply after (c .snapshot .result)) (c .snapshot .last .0)
+  performs : (L : Ledger) → IsRoom (start .args .room .now) L → Performed (snapshot longestSnapshot) L (snapshotReply after (c .snapshot .result)) (c .snapshot .last .0)
   performs L is-room =
       let same = same-snapshot {size = length (part output)} (omega (arith, part-length output room, start .pre .1)) L (is-room .sound) in
       let given = c .snapshot .ensures .0 L is-room in
@@ -51,7 +51,7 @@ returns c L is-room =
     let r = taken .snapshot .result in
     let is = exhausted L (is-room .sound) (after taken) r (call .before .before .match .keys2) (performs taken L is-room .answer) in
     let back = part-back (output taken) (taken .snapshot .ensures .1 .0 ∙ ap (λ x. outputAfter x (part (output taken))) is) in
-    performed (subst (λ x. Performs (snapshot longestSnapshot) L x (taken .snapshot .last .0)) is (performs taken L is-room))
+    performed (subst (λ x. Performed (snapshot longestSnapshot) L x (taken .snapshot .last .0)) is (performs taken L is-room))
     (subst (λ before. WritesReply (replyOf AllocatorExhausted) before (call .write-number .last .0) (call .write-number .result)) back (call .write-number .ensures)) refl
 
 add-result : tie.Need-add-result
@@ -71,7 +71,7 @@ returns-2 c L is-room =
     let handed = take size (after taken) in
     let long : length handed ≡ size = length-take-le size (after taken) (omega (arith, within taken is, taken .snapshot .kept, part-length (output taken) (room taken))) in
     let kept = taken .snapshot .ensures .1 .0 ∙ ap (λ x. outputAfter (snapshotReply (after taken) x) (part (output taken))) is in
-    performed (subst (λ x. Performs (snapshot longestSnapshot) L (snapshotReply (after taken) x) (taken .snapshot .last .0)) is (performs taken L is-room))
+    performed (subst (λ x. Performed (snapshot longestSnapshot) L (snapshotReply (after taken) x) (taken .snapshot .last .0)) is (performs taken L is-room))
     (number-before (output taken) (room taken) handed long kept (c .before .before .write1 .ensures)) refl
 
 pub snapshot-spec : {M : Type 1} → statement M

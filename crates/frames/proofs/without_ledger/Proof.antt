@@ -7,8 +7,8 @@ use borrow.Author.Needs.{needs}
 use lib.ListN.{length}
 use Rattle.rules.specs.AnswerNumbers.{unsound}
 use Rattle.rules.specs.Frames.{migrateTo, certify, judge, answer, answerOr23}
-use Rattle.operations.specs.declared.Frame.{Frame}
-use Rattle.operations.specs.Operations.{operationIn, PartsWithin}
+use Rattle.frame_reader.specs.declared.Frame.{Frame}
+use Rattle.frame_reader.specs.Operations.{operationIn, PartsWithin}
 use Rattle.answer_bytes.specs.Writing.{WritesReply}
 use Rattle.answer_bytes.proofs.Arms.{matched}
 use Rattle.frames.specs.Answering.{roomFor}

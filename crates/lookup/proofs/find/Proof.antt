@@ -8,10 +8,10 @@ use borrow.Author.Count.{below-none, below-more}
 use lib.ListN.{getD}
 use Rattle.rules.specs.RoomAndSoundLedger.{same}
 use Rattle.records.specs.Records.{sizesOf}
-use Rattle.contents.specs.Contents.{contentsOf, usedPlaces}
-use Rattle.contents.specs.declared.Found.the-variants.{At, Absent}
-use Rattle.lookup.proofs.ByIndex.{all-of-reads}
-use Rattle.lookup.proofs.InRoom.{used-places, loaded-name, name-in-room}
+use Rattle.room.specs.Contents.{contentsOf, usedPlaces}
+use Rattle.room.specs.declared.Found.the-variants.{At, Absent}
+use Rattle.rules.proofs.ByIndex.{all-of-reads}
+use Rattle.room.proofs.InRoom.{used-places, loaded-name, name-in-room}
 use Rattle.lookup.proofs.Places.{noPlace, spells, name-only}
 use Rattle.lookup.proofs.find.Statement.{statement}
 use Rattle.lookup.proofs.find.Tie as tie

@@ -7,9 +7,9 @@ use borrow.Author.Tests.{eq-eqb}
 use lib.ListN.{length, getD}
 use Rattle.records.specs.Rows.{row}
 use Rattle.records.specs.Records.{sizesOf, bookingOf}
-use Rattle.contents.specs.Contents.{contentsOf, baseOf, liveBookings, emptyBooking}
-use Rattle.contents.specs.declared.Found.the-variants.{At, Absent}
-use Rattle.lookup.proofs.InRoom.{live-bookings, loaded-booking}
+use Rattle.room.specs.Contents.{contentsOf, baseOf, liveBookings, emptyBooking}
+use Rattle.room.specs.declared.Found.the-variants.{At, Absent}
+use Rattle.room.proofs.InRoom.{live-bookings, loaded-booking}
 use Rattle.lookup.proofs.Halving.{Bracket, whole, raise-low, lower-high, hit, miss}
 use Rattle.lookup.proofs.Bookings.{ids-divide, booking-only}
 use Rattle.lookup.proofs.find_booking.Statement.{statement}

@@ -5,7 +5,7 @@ use native.Mathlib.Omega.{arith}
 use borrow.Author.Needs.{needs}
 use lib.ListN.{getD}
 use Rattle.records.proofs.Rows.{span}
-use Rattle.lookup.proofs.InRoom.{name-length, name-spelled}
+use Rattle.room.proofs.InRoom.{name-length, name-spelled}
 use Rattle.lookup.proofs.name_at.Statement.{statement}
 use Rattle.lookup.proofs.name_at.Tie as tie
 

@@ -13,8 +13,8 @@ use Rattle.names.specs.declared.Order.the-variants.{Before, Same, After}
 use Rattle.names.specs.Names.{orderingOf, spelled}
 use Rattle.names.proofs.Order.{enum}
 use Rattle.records.specs.Records.{sizesOf}
-use Rattle.contents.specs.Contents.{contentsOf, usedPlaces}
-use Rattle.lookup.proofs.InRoom.{used-places, loaded-name, name-in-room}
+use Rattle.room.specs.Contents.{contentsOf, usedPlaces}
+use Rattle.room.proofs.InRoom.{used-places, loaded-name, name-in-room}
 use Rattle.lookup.proofs.Places.{noPlace, eq-not-lt, gt-not-lt, goes-only}
 use Rattle.lookup.proofs.place_for.Statement.{statement}
 use Rattle.lookup.proofs.place_for.Tie as tie

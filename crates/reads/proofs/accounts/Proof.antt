@@ -5,8 +5,8 @@ use Prim.Native.Nat.{_+_, _-_, _≤_}
 use native.Mathlib.Omega.{arith}
 use borrow.Author.Needs.{needs}
 use Rattle.records.specs.Records.{sizesOf}
-use Rattle.contents.specs.Contents.{Sized}
-use Rattle.lookup.proofs.SoundRoom.{sized}
+use Rattle.room.specs.Contents.{Sized}
+use Rattle.room.proofs.SoundRoom.{sized}
 use Rattle.reads.proofs.Sums.{sumTo, sum-none, sum-next}
 use Rattle.reads.proofs.Totals.{counted, counted-one, counted-none, counted-most, count-is}
 use Rattle.reads.proofs.accounts.Statement.{statement}

@@ -1,5 +1,5 @@
 -- `reads::seek` meets its contract.
-use Rattle.contents.specs.Contents.{contentsOf, usedPlaces}
+use Rattle.room.specs.Contents.{contentsOf, usedPlaces}
 use Rattle.reads.proofs.Seeking.{searchable, found-in, sought-long, sought-seat}
 use Rattle.reads.proofs.seek.Statement.{statement}
 use Rattle.reads.proofs.seek.Tie as tie

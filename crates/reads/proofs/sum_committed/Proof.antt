@@ -6,8 +6,8 @@ use borrow.Author.Needs.{needs}
 use Rattle.rules.specs.RoomAndSoundLedger.{M}
 use Rattle.numbers.proofs.Amounts.{above-sum, fits-sum}
 use Rattle.records.specs.Records.{sizesOf}
-use Rattle.contents.specs.Contents.{Sized}
-use Rattle.lookup.proofs.SoundRoom.{sized}
+use Rattle.room.specs.Contents.{Sized}
+use Rattle.room.proofs.SoundRoom.{sized}
 use Rattle.reads.proofs.Sums.{sumTo, sum-none, sum-next}
 use Rattle.reads.proofs.Totals.{committedIn, sum-is, sum-above}
 use Rattle.reads.proofs.sum_committed.Statement.{statement}

@@ -5,7 +5,7 @@ use native.Mathlib.Omega.{arith}
 use Rattle.numbers.specs.LittleEndian.{littleBytes}
 use Rattle.records.specs.Rows.{put}
 use Rattle.records.specs.Records.{pairWidths, pairBytes}
-use Rattle.records.proofs.Fields.{written-is}
+use Rattle.records.proofs.Fields.{fields-written}
 use borrow.Author.Needs.{needs}
 use Rattle.records.proofs.store_sizes.Statement.{statement}
 use Rattle.records.proofs.store_sizes.Tie as tie
@@ -22,7 +22,7 @@ returns c =
     let reservations : _ ≡ littleBytes 8 (z .reservations) = at-reservations .write82 .ensures in (
       at-counts .store-counts .ensures .0
           ∙ (λ j. put 40 16 (put 8 8 (put 0 8 room (names j)) (reservations j)) (pairBytes (z .used) (z .live)))
-          ∙ ap (λ ys. put 40 16 ys (pairBytes (z .used) (z .live))) (written-is 0 pairWidths (z .names ∷ z .reservations ∷ []) room refl (omega (arith, s .pre))),
+          ∙ ap (λ ys. put 40 16 ys (pairBytes (z .used) (z .live))) (fields-written 0 pairWidths (z .names ∷ z .reservations ∷ []) room refl (omega (arith, s .pre))),
       search needs,
     )
 

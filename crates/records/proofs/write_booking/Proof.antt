@@ -5,7 +5,7 @@ use Rattle.numbers.specs.LittleEndian.{littleBytes}
 use Rattle.records.specs.Rows.{put}
 use Rattle.records.specs.Records.{bookingWidths, bookingNumbers, bookingBytes}
 use Rattle.records.proofs.Rows.{put-all}
-use Rattle.records.proofs.Fields.{written-is}
+use Rattle.records.proofs.Fields.{fields-written}
 use borrow.Author.Needs.{needs}
 use Rattle.records.proofs.write_booking.Statement.{statement}
 use Rattle.records.proofs.write_booking.Tie as tie
@@ -22,7 +22,7 @@ returns c =
     let amount : _ ≡ littleBytes 8 (k .amount) = at-amount .write82 .ensures in
     let owner : _ ≡ littleBytes 2 (k .owner) = at-owner .write2 .ensures in
     (λ j. put 16 2 (put 8 8 (put 0 8 part (id j)) (amount j)) (owner j))
-    ∙ written-is 0 bookingWidths (bookingNumbers k) part refl (omega (arith, s .pre))
+    ∙ fields-written 0 bookingWidths (bookingNumbers k) part refl (omega (arith, s .pre))
     ∙ put-all 18 part (bookingBytes k) (s .pre)
 
 pub write-booking-spec : {M : Type 1} → statement M

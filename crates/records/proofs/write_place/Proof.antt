@@ -5,7 +5,7 @@ use Rattle.numbers.specs.LittleEndian.{littleBytes}
 use Rattle.records.specs.Rows.{put, fieldBytes}
 use Rattle.records.specs.Records.{placeWidths, placeNumbers, placeBytes}
 use Rattle.records.proofs.Rows.{put-next, put-all}
-use Rattle.records.proofs.Fields.{fields-length, written-is}
+use Rattle.records.proofs.Fields.{fields-length, fields-written}
 use borrow.Author.Needs.{needs}
 use Rattle.records.proofs.write_place.Statement.{statement}
 use Rattle.records.proofs.write_place.Tie as tie
@@ -33,7 +33,7 @@ returns c =
     let length : _ ≡ littleBytes 1 (p .name .length) = at-length .write12 .ensures in
     let bytes : _ ≡ p .name .bytes = at-bytes .write-name-bytes .ensures in
     (λ j. put 42 24 (put 41 1 (put 40 1 (put 32 8 (put 24 8 (put 16 8 (put 8 8 (put 0 8 part (initial j)) (remaining j)) (reserved j)) (committed j)) (limit j)) (account j)) (length j)) (bytes j))
-    ∙ ap (λ xs. put 42 24 xs (p .name .bytes)) (written-is 0 placeWidths (placeNumbers p) part refl (omega (arith, s .pre)))
+    ∙ ap (λ xs. put 42 24 xs (p .name .bytes)) (fields-written 0 placeWidths (placeNumbers p) part refl (omega (arith, s .pre)))
     ∙ put-next 0 42 part front (omega (arith, s .pre)) (fields-length placeWidths (placeNumbers p) refl) 24 (p .name .bytes)
     ∙ put-all 66 part (placeBytes p) (s .pre)
 

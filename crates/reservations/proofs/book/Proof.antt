@@ -4,7 +4,7 @@ use Prim.Native.Nat.{_<_}
 use native.Mathlib.Omega.{arith}
 use borrow.Author.Needs.{needs}
 use Rattle.heads.specs.Heads.{afterDraw}
-use Rattle.contents.specs.Contents.{contentsOf, Sized, withHead, appendedBooking}
+use Rattle.room.specs.Contents.{contentsOf, Sized, withHead, appendedBooking}
 use Rattle.tables.proofs.Stores.{sized-by, loaded}
 use Rattle.reservations.specs.Steps.{granted, full}
 use Rattle.reservations.proofs.Stepping.{seated-sizes, seated-sized, appended-sized}

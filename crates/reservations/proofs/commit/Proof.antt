@@ -12,9 +12,9 @@ use Rattle.rules.specs.Domain.{IsAmount}
 use Rattle.moves.specs.Moves.{SeatSound, committingSettlement, CommittingSound}
 use Rattle.moves.specs.declared.Committing.{Committing}
 use Rattle.moves.specs.declared.Committing.the-variants as committing
-use Rattle.contents.specs.Contents.{Sized}
-use Rattle.contents.specs.Room.{IsRoom}
-use Rattle.lookup.proofs.SoundRoom.{sized, ids-ascend}
+use Rattle.room.specs.Contents.{Sized}
+use Rattle.room.specs.Room.{IsRoom}
+use Rattle.room.proofs.SoundRoom.{sized, ids-ascend}
 use Rattle.reservations.proofs.Fitting.{commit-fits, seat-small}
 use Rattle.reservations.proofs.Performing.{amount-fits}
 use Rattle.reservations.proofs.Ending.{Live, Settled, live-below, end-allowed, due-allowed, live, gone, refuses, settled, leaves, ends}

@@ -2,7 +2,7 @@
 use mathlib.Core.Path.{ap, _∙_}
 use borrow.Author.Needs.{needs}
 use Rattle.heads.proofs.Draws.{head-drawn}
-use Rattle.contents.specs.Contents.{contentsOf, withHead}
+use Rattle.room.specs.Contents.{contentsOf, withHead}
 use Rattle.reservations.proofs.draw.Statement.{statement}
 use Rattle.reservations.proofs.draw.Tie as tie
 

@@ -5,9 +5,9 @@ use native.Mathlib.Omega.{arith}
 use lib.ListN.{length, length-map}
 use Rattle.rules.specs.RoomAndSoundLedger.{Ledger}
 use Rattle.records.specs.declared.Booking.{Booking}
-use Rattle.contents.specs.Room.{placeNumber, placeRecord, bookingRecord, IsRoom}
+use Rattle.room.specs.Room.{placeNumber, placeRecord, bookingRecord, IsRoom}
 use Rattle.tables.proofs.Stores.{Loaded, loaded}
-use Rattle.lookup.proofs.SoundRoom.{sized, places-are}
+use Rattle.room.proofs.SoundRoom.{sized, places-are}
 use Rattle.reservations.specs.Steps.{bookingAt, dueAt}
 use Rattle.reservations.proofs.Ending.{live-is, owner-below, booking-is, seat-there}
 use Rattle.reservations.proofs.due_at.Statement.{statement}

@@ -1,7 +1,7 @@
 -- `reservations::end` meets its contract.
 use mathlib.Core.Path.{_≡_, ap, _∙_}
 use borrow.Author.Needs.{needs}
-use Rattle.contents.specs.Contents.{contentsOf, removedBooking}
+use Rattle.room.specs.Contents.{contentsOf, removedBooking}
 use Rattle.reservations.proofs.Stepping.{seated-sizes, seated-sized}
 use Rattle.reservations.proofs.end.Statement.{statement}
 use Rattle.reservations.proofs.end.Tie as tie

@@ -10,9 +10,9 @@ use Rattle.rules.specs.AccountRules.{AccountOperation, release, releaseRule, op
 use Rattle.moves.specs.Moves.{SeatSound, releasingSettlement, ReleasingSound}
 use Rattle.moves.specs.declared.Releasing.{Releasing}
 use Rattle.moves.specs.declared.Releasing.the-variants as releasing
-use Rattle.contents.specs.Contents.{Sized}
-use Rattle.contents.specs.Room.{IsRoom}
-use Rattle.lookup.proofs.SoundRoom.{sized, ids-ascend}
+use Rattle.room.specs.Contents.{Sized}
+use Rattle.room.specs.Room.{IsRoom}
+use Rattle.room.proofs.SoundRoom.{sized, ids-ascend}
 use Rattle.reservations.proofs.Fitting.{release-fits, seat-small}
 use Rattle.reservations.proofs.Ending.{Live, Settled, live-below, end-allowed, due-allowed, live, gone, refuses, settled, leaves, ends}
 use Rattle.reservations.proofs.release.Statement.{statement}

@@ -13,10 +13,10 @@ use Rattle.rules.specs.Domain.{IsBytes, IsAmount}
 use Rattle.numbers.proofs.Bytes.{all-bytes}
 use Rattle.moves.specs.declared.Reserving.{Reserving}
 use Rattle.moves.specs.declared.Reserving.the-variants as reserving
-use Rattle.contents.specs.Contents.{contentsOf, Sized, usedPlaces, placeOfName}
-use Rattle.contents.specs.Room.{IsRoom}
-use Rattle.contents.specs.declared.Found.the-variants.{At}
-use Rattle.lookup.proofs.SoundRoom.{sized, names-short}
+use Rattle.room.specs.Contents.{contentsOf, Sized, usedPlaces, placeOfName}
+use Rattle.room.specs.Room.{IsRoom}
+use Rattle.room.specs.declared.Found.the-variants.{At}
+use Rattle.room.proofs.SoundRoom.{sized, names-short}
 use Rattle.reservations.proofs.Fitting.{seat-small}
 use Rattle.reservations.proofs.Performing.{amount-fits}
 use Rattle.reservations.proofs.Reserving.{Decided, found-in, found-sound, too-long, decides, refuses, next-below, loses, found-at, place-in-use, books}

@@ -3,8 +3,8 @@ use mathlib.Core.Path.{ap, _∙_}
 use Prim.Native.Nat.{_<_}
 use native.Mathlib.Omega.{arith}
 use borrow.Author.Needs.{needs}
-use Rattle.contents.specs.Contents.{contentsOf, emptyPlace, withPlace}
-use Rattle.contents.specs.Seats.{reseated, withSeat}
+use Rattle.room.specs.Contents.{contentsOf, emptyPlace, withPlace}
+use Rattle.room.specs.Seats.{reseated, withSeat}
 use Rattle.tables.proofs.Stores.{sized-by, place-loaded}
 use Rattle.seats.proofs.put_seat.Statement.{statement}
 use Rattle.seats.proofs.put_seat.Tie as tie

@@ -5,9 +5,9 @@ use native.Mathlib.Omega.{arith}
 use borrow.Author.Needs.{needs}
 use lib.ListN.{length}
 use Rattle.records.specs.Records.{sizesOf}
-use Rattle.contents.specs.Contents.{contentsOf, usedPlaces, emptyPlace}
-use Rattle.contents.specs.Seats.{FoundIn, seatOfPlace, seatFound}
-use Rattle.lookup.proofs.InRoom.{used-places, loaded-place}
+use Rattle.room.specs.Contents.{contentsOf, usedPlaces, emptyPlace}
+use Rattle.room.specs.Seats.{FoundIn, seatOfPlace, seatFound}
+use Rattle.room.proofs.InRoom.{used-places, loaded-place}
 use Rattle.seats.proofs.seat_at.Statement.{statement}
 use Rattle.seats.proofs.seat_at.Tie as tie
 

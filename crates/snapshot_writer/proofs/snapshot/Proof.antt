@@ -11,8 +11,8 @@ use Rattle.rules.specs.RoomAndSoundLedger.{Ledger}
 use Rattle.rules.specs.SnapshotsMigrationCertificates.{rowBytes, accountRows, snapshotBytes, snapshotOf, tooShortFor}
 use Rattle.records.specs.declared.Head.{Head}
 use Rattle.heads.specs.Heads.{stampedHead}
-use Rattle.contents.specs.Room.{headIn, IsRoom}
-use Rattle.lookup.proofs.SoundRoom.{head-is, sized}
+use Rattle.room.specs.Room.{headIn, IsRoom}
+use Rattle.room.proofs.SoundRoom.{head-is, sized}
 use Rattle.snapshot_writer.proofs.PlaceRows.{snapshot-size}
 use Rattle.snapshot_writer.proofs.Answering.{WrittenInto, written-out, answers-exhausted, answers-short, answers-written}
 use Rattle.snapshot_writer.proofs.snapshot.Statement.{statement}

@@ -7,7 +7,7 @@ use borrow.Author.Needs.{needs}
 use lib.ListN.{length}
 use Rattle.rules.specs.SnapshotsMigrationCertificates.{Row}
 use Rattle.records.specs.Records.{sizesOf}
-use Rattle.row_writer.specs.Rows.{WritesRows}
+use Rattle.snapshot_writer.specs.Rows.{WritesRows}
 use Rattle.snapshot_writer.specs.Output.{rowOfPlace, rowSize}
 use Rattle.snapshot_writer.proofs.PlaceRows.{rowsTo, none-written, count-most, used-most, place-in-room, rows-next, size-next, rows-all, size-within}
 use Rattle.snapshot_writer.proofs.write_rows.Statement.{statement}

@@ -6,8 +6,8 @@ use lib.ListN.{length}
 use Rattle.rules.proofs.Tests.{none-some}
 use Rattle.records.specs.Rows.{put}
 use Rattle.records.specs.Records.{headBytes}
-use Rattle.contents.specs.Contents.{contentsOf}
-use Rattle.contents.specs.Room.{contentsIn}
+use Rattle.room.specs.Contents.{contentsOf}
+use Rattle.room.specs.Room.{contentsIn}
 use Rattle.soundness.specs.Facts.{SizesSound}
 use Rattle.soundness.proofs.Deciding.{refused, accepted}
 use Rattle.soundness.proofs.Fresh.{made-some, made-fresh, freshSizes, freshHead, sizesPut, fresh-room}

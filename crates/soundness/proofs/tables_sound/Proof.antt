@@ -7,7 +7,7 @@ use borrow.Author.Tests.{not-true, not-false}
 use Rattle.rules.specs.Lists.{All}
 use Rattle.rules.specs.RoomAndSoundLedger.{IsByte}
 use Rattle.numbers.proofs.Bytes.{all-bytes}
-use Rattle.contents.specs.Contents.{contentsOf}
+use Rattle.room.specs.Contents.{contentsOf}
 use Rattle.soundness.specs.Facts.{TablesSound}
 use Rattle.soundness.specs.Steps.{Noted}
 use Rattle.soundness.proofs.Deciding.{refuse, refused, accepted, by-answer}

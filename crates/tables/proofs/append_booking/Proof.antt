@@ -6,7 +6,7 @@ use borrow.Author.Needs.{needs}
 use mathlib.Core.List.{List}
 use lib.ListN.{set}
 use Rattle.records.specs.declared.Booking.{Booking}
-use Rattle.contents.specs.Contents.{contentsOf, baseOf, appendedBooking}
+use Rattle.room.specs.Contents.{contentsOf, baseOf, appendedBooking}
 use Rattle.tables.specs.Steps.{onBookings}
 use Rattle.tables.proofs.Stores.{Loaded, loaded, stays, counted, booking-replaced}
 use Rattle.tables.proofs.Whole.{appended}

@@ -3,7 +3,7 @@ use Prim.Native.Nat.{_-_, _≤_}
 use native.Mathlib.Omega.{arith}
 use borrow.Author.Needs.{needs}
 use lib.ListN.{length}
-use Rattle.contents.specs.Contents.{contentsOf, closed, renumbered, lowered, emptyPlace, freedPlace}
+use Rattle.room.specs.Contents.{contentsOf, closed, renumbered, lowered, emptyPlace, freedPlace}
 use Rattle.tables.specs.Steps.{Becomes, onPlaces, movedDown}
 use Rattle.tables.proofs.Moving.{closed-set}
 use Rattle.tables.proofs.Stores.{Loaded, loaded, for-bookings, finished, places-length, place-replaced}

@@ -5,7 +5,7 @@ use native.Mathlib.Omega.{arith}
 use borrow.Author.Needs.{needs}
 use lib.ListN.{length, take}
 use Rattle.rules.specs.Lists.{All}
-use Rattle.contents.specs.Contents.{contentsOf, opened, renumbered, raised, emptyPlace, insertedPlace}
+use Rattle.room.specs.Contents.{contentsOf, opened, renumbered, raised, emptyPlace, insertedPlace}
 use Rattle.tables.specs.Steps.{Becomes, onPlaces, movedUp}
 use Rattle.tables.proofs.Moving.{opened-set}
 use Rattle.tables.proofs.Stores.{Loaded, loaded, for-bookings, finished, places-length, place-replaced}

@@ -6,7 +6,7 @@ use native.Mathlib.Omega.{arith}
 use borrow.Author.Needs.{needs}
 use lib.ListN.{length, getD}
 use Rattle.numbers.proofs.Bytes.{all-bytes}
-use Rattle.contents.specs.Contents.{contentsOf, emptyBooking, lowered, renumbered}
+use Rattle.room.specs.Contents.{contentsOf, emptyBooking, lowered, renumbered}
 use Rattle.tables.specs.Steps.{Becomes, onBookings}
 use Rattle.tables.proofs.Moving.{renumbered-none, lowered-behind, lowered-up-to}
 use Rattle.tables.proofs.Stores.{SizedBy, sized-by, owner-fits, owner-read, owner-stored, owner-kept}

@@ -5,7 +5,7 @@ use native.Mathlib.Omega.{arith}
 use borrow.Author.Needs.{needs}
 use lib.ListN.{length}
 use Rattle.records.specs.Rows.{row, put}
-use Rattle.contents.specs.Contents.{contentsOf, emptyBooking}
+use Rattle.room.specs.Contents.{contentsOf, emptyBooking}
 use Rattle.tables.proofs.Gap.{gap-put}
 use Rattle.tables.proofs.Stores.{SizedBy, sized-by, bookings-moved}
 use Rattle.tables.proofs.move_bookings_down.Statement.{statement}

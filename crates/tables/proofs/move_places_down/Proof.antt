@@ -4,7 +4,7 @@ use mathlib.Core.Path.{_≡_, refl, ap, subst}
 use native.Mathlib.Omega.{arith}
 use borrow.Author.Needs.{needs}
 use lib.ListN.{length}
-use Rattle.contents.specs.Contents.{contentsOf, emptyPlace}
+use Rattle.room.specs.Contents.{contentsOf, emptyPlace}
 use Rattle.tables.specs.Steps.{Becomes, onPlaces, movedDown}
 use Rattle.tables.proofs.Moving.{down-none, down-turn}
 use Rattle.tables.proofs.Stores.{SizedBy, sized-by, places-length, place-moved}

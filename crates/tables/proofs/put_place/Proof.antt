@@ -2,7 +2,7 @@
 use Prim.Native.Nat.{_<_}
 use native.Mathlib.Omega.{arith}
 use borrow.Author.Needs.{needs}
-use Rattle.contents.specs.Contents.{contentsOf}
+use Rattle.room.specs.Contents.{contentsOf}
 use Rattle.tables.proofs.Stores.{sized-by, place-put}
 use Rattle.tables.proofs.put_place.Statement.{statement}
 use Rattle.tables.proofs.put_place.Tie as tie

@@ -5,7 +5,7 @@ use mathlib.Core.Logic.{⊎-elim}
 use native.Mathlib.Omega.{arith}
 use borrow.Author.Needs.{needs}
 use lib.ListN.{length, getD}
-use Rattle.contents.specs.Contents.{contentsOf, emptyBooking, raised, renumbered}
+use Rattle.room.specs.Contents.{contentsOf, emptyBooking, raised, renumbered}
 use Rattle.tables.specs.Steps.{Becomes, onBookings}
 use Rattle.tables.proofs.Moving.{all-taken, renumbered-none, raised-from, raised-before}
 use Rattle.tables.proofs.Stores.{SizedBy, sized-by, bookings-length, owner-read, owner-stored, owner-kept}

@@ -4,7 +4,7 @@ use mathlib.Core.Path.{refl, ap}
 use native.Mathlib.Omega.{arith}
 use borrow.Author.Needs.{needs}
 use lib.ListN.{length}
-use Rattle.contents.specs.Contents.{contentsOf, baseOf, closed, emptyBooking, removedBooking}
+use Rattle.room.specs.Contents.{contentsOf, baseOf, closed, emptyBooking, removedBooking}
 use Rattle.tables.specs.Steps.{onBookings, movedDown}
 use Rattle.tables.proofs.Moving.{closed-set}
 use Rattle.tables.proofs.Stores.{Loaded, loaded, stays, counted, bookings-length, booking-replaced}

@@ -1,6 +1,0 @@
-pub mod Filled
-pub mod Decoding
-pub mod Numbers
-pub mod Steps
-pub mod Seating
-pub mod Settling

@@ -1,0 +1,77 @@
+-- Frames of a known size: an operation where the frame is just so long, and none where it is shorter or longer.
+use mathlib.Core.Path.{_≡_, refl, _∙_, ap, subst}
+use mathlib.Core.List.{List}
+use mathlib.Core.Option.{none, some}
+use Prim.Native.Nat.{ℕ, _+_, _-_, _≤_}
+use native.Mathlib.Omega.{arith}
+use borrow.Author.Tests.{ltb-true, ltb-false, eq-eqb, ne-eqb}
+use lib.Dec.{ltb}
+use lib.IntN.{ℤ}
+use lib.ListN.{length, take, drop, getD, length-drop}
+use Rattle.rules.specs.Lists.{first}
+use Rattle.rules.specs.RoomAndSoundLedger.{Name}
+use Rattle.rules.specs.AccountRules.{AccountOperation, commit, release}
+use Rattle.rules.specs.SnapshotsMigrationCertificates.{Reader, reads, whole, numberOf, readNumber, readPart, readName}
+use Rattle.rules.specs.Frames.{Operation, onAccount, nameAndAmount, codes, operationOf}
+use Rattle.rules.proofs.Tests.{by-bool}
+use Rattle.snapshot_reader.proofs.RowBytes.{Takes, takes-then, takes-nothing, part-takes, number-takes, amountAt, amount-takes}
+use Rattle.frame_reader.specs.Operations.{nameIn}
+use Rattle.frame_reader.proofs.Codes.{byte-at, bodyWith, by-code}
+
+-- ── a reader that takes just the bytes that are there ──────────────────────────────────────────
+
+module _ {A : Type 0} {bs : List ℕ} {from to : ℕ} {reader : Reader A} {x : A} (takes : Takes bs from to reader x) where
+  whole-fit : length bs ≡ to → whole (reader (drop from bs)) ≡ some x
+  whole-fit e = ap whole (takes .long (omega arith)) ∙ rw (eq-eqb (length (drop to bs)) 0 (omega (arith, length-drop to bs)))
+
+  -- too few bytes, or one is left over
+  whole-misfit : from ≤ length bs → (length bs ≡ to → ⊥) → whole (reader (drop from bs)) ≡ none
+  whole-misfit h other = by-bool (λ b. ltb (length bs) to ≡ b → whole (reader (drop from bs)) ≡ none) (ltb (length bs) to)
+      (λ _ t. ap whole (takes .short h (ltb-true (length bs) to t)))
+      (λ _ t. let l : to ≤ length bs = ltb-false (length bs) to t in
+      ap whole (takes .long l) ∙ rw (ne-eqb (length (drop to bs)) 0 (λ z. other (omega (arith, length-drop to bs)))))
+      refl
+
+-- ── frames ─────────────────────────────────────────────────────────────────────────────────────
+
+pub record Sized (bs : List ℕ) (size : ℕ) (x : Operation) : Type 0 where
+  pub fit : length bs ≡ size → operationOf bs ≡ some x
+  pub misfit : (length bs ≡ size → ⊥) → operationOf bs ≡ none
+
+module _ {bs : List ℕ} (h : 1 ≤ length bs) where
+  sized : {number size : ℕ} {x : Operation} {body : Reader Operation} → getD bs 0 0 ≡ number → bodyWith number ≡ body → Takes bs 1 size body x → Sized bs size x
+  sized {number} {body} e is takes =
+      let read : operationOf bs ≡ whole (body (drop 1 bs)) = by-code bs h number e ∙ ap (λ r. whole (r (drop 1 bs))) is in
+      record { fit = λ f. read ∙ whole-fit takes f; misfit = λ f. read ∙ whole-misfit takes h f }
+
+  -- "07 snapshot", "0b certificate", "0d proof"
+  pub alone : {number : ℕ} (x : Operation) → getD bs 0 0 ≡ number → bodyWith number ≡ reads x → Sized bs 1 x
+  alone x e is = sized e is (takes-nothing bs 1 x)
+
+  -- "05 commit (id, amount)"
+  pub committing : getD bs 0 0 ≡ 5 → Sized bs 17 (onAccount (commit (numberOf (take 8 (drop 1 bs))) (amountAt 9 bs)))
+  unfolding first codes
+  committing e = sized e refl
+      (takes-then _ (number-takes bs 1 9 8 refl) (omega arith)
+      (takes-then _ (amount-takes bs 9 17 refl) (omega arith)
+      (takes-nothing bs 17 _)))
+
+  -- "06 release (id)"
+  pub releasing : getD bs 0 0 ≡ 6 → Sized bs 9 (onAccount (release (numberOf (take 8 (drop 1 bs)))))
+  unfolding first codes
+  releasing e = sized e refl (takes-then _ (number-takes bs 1 9 8 refl) (omega arith) (takes-nothing bs 9 _))
+
+  -- "01 ensure, 02 top-up, 03 limit, 04 reserve (name, amount)": byte 1 is the length of the name
+  module _ (end : ℕ) (ends : end ≡ 2 + getD bs 1 0) where
+    name-takes : Takes bs 1 end readName (nameIn bs end)
+    unfolding readName
+    name-takes =
+        let size : numberOf (take 1 (drop 1 bs)) ≡ end - 2 = byte-at 1 bs ∙ omega arith in
+        takes-then readPart (subst (Takes bs 1 2 (readNumber 1)) size (number-takes bs 1 2 1 refl)) (omega arith) (part-takes bs 2 end (end - 2) (omega arith))
+
+    pub naming : {number : ℕ} (operation : Name → ℤ → AccountOperation ℕ) → getD bs 0 0 ≡ number → bodyWith number ≡ nameAndAmount operation
+        → Sized bs (end + 8) (onAccount (operation (nameIn bs end) (amountAt end bs)))
+    naming operation e is = sized e is
+        (takes-then _ name-takes (omega arith)
+        (takes-then _ (amount-takes bs end (end + 8) refl) (omega arith)
+        (takes-nothing bs (end + 8) _)))

@@ -1,0 +1,85 @@
+-- What a load from a sized room gives: the entry of its table; and where a place's name stands in the room.
+use mathlib.Core.Path.{_≡_, sym, ap, _∙_}
+use mathlib.Core.List.{List, []}
+use Prim.Native.Nat.{ℕ, _+_, _*_, _≤_, _<_}
+use native.Mathlib.Omega.{arith}
+use lib.ListN.{length, take, drop, getD}
+use lib.Seq.{drop-cons, drop-drop, take-take, getD-take, length-take-le}
+use Rattle.rules.specs.Lists.{All}
+use Rattle.numbers.specs.LittleEndian.{littleNumber}
+use Rattle.names.specs.Names.{spelled}
+use Rattle.records.specs.declared.Place.{Place}
+use Rattle.records.specs.declared.Booking.{Booking}
+use Rattle.records.specs.Rows.{row, table}
+use Rattle.records.specs.Records.{sizesOf, placeOf, bookingOf}
+use Rattle.records.proofs.Rows.{row-front, table-length, table-at}
+use Rattle.room.specs.Contents.{contentsOf, baseOf, Sized, usedPlaces, liveBookings}
+use Rattle.rules.proofs.ByIndex.{any-default, all-read}
+
+-- ── entries in use ─────────────────────────────────────────────────────────────────────────────
+
+module _ {A : Type 0} (read : List ℕ → A) (k b n m : ℕ) (xs : List ℕ) (within : m ≤ n) where
+  -- the first m records of a table
+  used-length : length (take m (table read k b n xs)) ≡ m
+  used-length = length-take-le m (table read k b n xs) (omega (arith, table-length read k b n xs))
+
+  used-at : (i : ℕ) (d : A) → i < m → read (row k (b + k * i) xs) ≡ getD (take m (table read k b n xs)) i d
+  used-at i d h =
+      let l : i < length (table read k b n xs) = omega (arith, table-length read k b n xs) in
+      sym (getD-take m (table read k b n xs) i d h ∙ any-default d (read []) (table read k b n xs) i l ∙ table-at read k b n i xs (omega arith))
+
+module _ (xs : List ℕ) (s : Sized xs) where
+  pub used-places : length (usedPlaces (contentsOf xs)) ≡ sizesOf xs .used
+  unfolding contentsOf
+  used-places = used-length placeOf 66 56 (sizesOf xs .names) (sizesOf xs .used) xs (s .used)
+
+  pub live-bookings : length (liveBookings (contentsOf xs)) ≡ sizesOf xs .live
+  unfolding contentsOf
+  live-bookings = used-length bookingOf 18 (baseOf (sizesOf xs .names)) (sizesOf xs .reservations) (sizesOf xs .live) xs (s .live)
+
+  -- what `load_place` gives of a place in use
+  pub loaded-place : (i : ℕ) (d : Place) → i < sizesOf xs .used → placeOf (row 66 (56 + 66 * i) xs) ≡ getD (usedPlaces (contentsOf xs)) i d
+  unfolding contentsOf
+  loaded-place = used-at placeOf 66 56 (sizesOf xs .names) (sizesOf xs .used) xs (s .used)
+
+  -- what `load_booking` gives of a live booking
+  pub loaded-booking : (i : ℕ) (d : Booking) → i < sizesOf xs .live → bookingOf (row 18 (baseOf (sizesOf xs .names) + 18 * i) xs) ≡ getD (liveBookings (contentsOf xs)) i d
+  unfolding contentsOf
+  loaded-booking = used-at bookingOf 18 (baseOf (sizesOf xs .names)) (sizesOf xs .reservations) (sizesOf xs .live) xs (s .live)
+
+  -- what `name_at` gives of a place in use
+  pub loaded-name : (i : ℕ) (d : Place) → i < sizesOf xs .used → spelled (placeOf (row 66 (56 + 66 * i) xs) .name) ≡ spelled (getD (usedPlaces (contentsOf xs)) i d .name)
+  loaded-name i d h = ap (λ p. spelled (p .name)) (loaded-place i d h)
+
+  -- what `name_at` asks of a place in use
+  pub name-in-room : (i : ℕ) → All (λ p. p .name .length ≤ 24) (usedPlaces (contentsOf xs)) → i < sizesOf xs .used
+      → (56 + 66 * i + 66 ≤ length xs) × (placeOf (row 66 (56 + 66 * i) xs) .name .length ≤ 24)
+  name-in-room i short h =
+      let at : getD (usedPlaces (contentsOf xs)) i (placeOf []) .name .length ≤ 24 = all-read (λ p. p .name .length ≤ 24) (placeOf []) (usedPlaces (contentsOf xs)) i short (omega (arith, used-places)) in
+      (omega (arith, s), omega (arith, ap (λ p. p .name .length) (loaded-place i (placeOf []) h)))
+
+-- ── a name where it stands ─────────────────────────────────────────────────────────────────────
+
+-- a part of a row, in the list that the row is of
+row-within : (j m k b : ℕ) (xs : List ℕ) → m + j ≤ k → row j m (row k b xs) ≡ row j (b + m) xs
+row-within j m k b xs h =
+    row-front j m (row k b xs) ∙ ap (drop m) (take-take (m + j) k (drop b xs) h) ∙ sym (row-front j m (drop b xs)) ∙ ap (take j) (drop-drop m b xs)
+
+one-byte : (at : ℕ) (xs : List ℕ) → at < length xs → littleNumber (row 1 at xs) ≡ getD xs at 0
+unfolding littleNumber
+one-byte at xs h = ap (λ w. littleNumber (take 1 w)) (drop-cons xs at 0 h) ∙ (omega arith)
+
+module _ (i : ℕ) (xs : List ℕ) (within : 56 + 66 * i + 66 ≤ length xs) where
+  pub name-length : placeOf (row 66 (56 + 66 * i) xs) .name .length ≡ getD xs (97 + 66 * i) 0
+  name-length =
+      let e : 56 + 66 * i + 41 ≡ 97 + 66 * i = omega arith in
+      ap littleNumber (row-within 1 41 66 (56 + 66 * i) xs (omega arith) ∙ ap (λ at. row 1 at xs) e) ∙ one-byte (97 + 66 * i) xs (omega arith)
+
+  pub name-spelled : placeOf (row 66 (56 + 66 * i) xs) .name .length ≤ 24
+      → spelled (placeOf (row 66 (56 + 66 * i) xs) .name) ≡ row (getD xs (97 + 66 * i) 0) (97 + 66 * i + 1) xs
+  name-spelled h =
+      let n : ℕ = getD xs (97 + 66 * i) 0 in
+      let e : 56 + 66 * i + 42 ≡ 97 + 66 * i + 1 = omega arith in
+      ap (λ m. take m (row 24 42 (row 66 (56 + 66 * i) xs))) name-length
+      ∙ ap (take n) (row-within 24 42 66 (56 + 66 * i) xs (omega arith) ∙ ap (λ at. row 24 at xs) e)
+      ∙ take-take n 24 (drop (97 + 66 * i + 1) xs) (omega (arith, name-length))

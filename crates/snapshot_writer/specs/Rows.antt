@@ -1,0 +1,27 @@
+-- A place's row in a snapshot, and what the rows written so far have made of the output.
+use mathlib.Core.Path.{_≡_}
+use mathlib.Core.List.{List, [], _∷_, _++_, flatMap}
+use Prim.Native.Nat.{ℕ, _+_}
+use lib.IntN.{pos}
+use lib.ListN.{length, take, drop}
+use Rattle.rules.specs.SnapshotsMigrationCertificates.{Row, bytesOf, rowBytes}
+use Rattle.names.specs.Names.{spelled}
+use Rattle.records.specs.declared.Place.{Place}
+use Rattle.snapshot_writer.specs.declared.Extent.{Extent}
+
+abbrev pub rowInPlace : Place → Row
+rowInPlace p = record { name = spelled (p .name); initial = pos (p .initial); remaining = pos (p .remaining); reserved = pos (p .reserved); committed = pos (p .committed) }
+
+-- "initial, remaining, reserved, committed"
+abbrev pub amountsBytes : Place → List ℕ
+amountsBytes p = bytesOf 8 (p .initial) ++ bytesOf 8 (p .remaining) ++ bytesOf 8 (p .reserved) ++ bytesOf 8 (p .committed)
+
+-- "version (8), active count (8), row count (2, ..)"
+abbrev pub headerBytes : (version active count : ℕ) → List ℕ
+headerBytes version active count = bytesOf 8 version ++ bytesOf 8 active ++ bytesOf 2 count
+
+-- these rows stand in the output after the room for the header; what stood past them stands there still
+pub record WritesRows (rs : List Row) (before after : List ℕ) (e : Extent) : Type 0 where
+  pub rows : e .rows ≡ length rs
+  pub end : e .end ≡ 18 + length (flatMap rowBytes rs)
+  pub output : after ≡ take 18 before ++ flatMap rowBytes rs ++ drop (e .end) before
