@@ -10,9 +10,9 @@ use lib.Dec.{ltb}
 use lib.IntN.{ℤ}
 use lib.ListN.{length}
 use Rattle.rules.specs.Lists.{All}
-use Rattle.rules.specs.RoomAndSoundLedger.{Name, Account, Ledger, isVacant, holdsPlace, seatIn, hasAccount, Sound}
+use Rattle.rules.specs.RoomAndSoundLedger.{Name, Account, Ledger, isVacant, withPlaces, holdsPlace, seatIn, hasAccount, Sound}
 use Rattle.rules.specs.AnswerNumbers.{Reply, Refusal, NameTooLong, NamesFull as FullOfNames, replyOf, Outcome, outcome, refused}
-use Rattle.rules.specs.AccountRules.{Move, refuse, tell, write, seated, hasRoom, withPlaces, doneWith, perform, isTooLong, onName, ensureRule, topUpRule, limitRule, ensure, topUp, limit, operate}
+use Rattle.rules.specs.AccountRules.{Move, refuse, tell, write, seated, hasRoom, doneWith, perform, isTooLong, onName, ensureRule, topUpRule, limitRule, ensure, topUp, limit, operate}
 use Rattle.rules.specs.Domain.{IsAmount, IsBytes}
 use Rattle.rules.proofs.Soundness.{operate-sound}
 use Rattle.rules.proofs.Tests.{by-bool, true-false}

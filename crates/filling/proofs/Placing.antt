@@ -9,8 +9,8 @@ use native.Mathlib.Omega.{arith}
 use borrow.Author.Tests.{ltb-false}
 use lib.ListN.{length, length-append}
 use Rattle.rules.specs.Lists.{any, All, Pairwise}
-use Rattle.rules.specs.RoomAndSoundLedger.{M, Name, same, Seat, Place, isVacant, isAt, seatOf, holdsPlace, seatIn, committedOf, committedTotal, InRange, Before, Sound, fresh}
-use Rattle.rules.specs.AccountRules.{natural, put, isTooLong, withPlaces}
+use Rattle.rules.specs.RoomAndSoundLedger.{M, Name, same, Seat, Place, isVacant, withPlaces, isAt, seatOf, holdsPlace, seatIn, committedOf, committedTotal, InRange, Before, Sound, fresh}
+use Rattle.rules.specs.AccountRules.{natural, put, isTooLong}
 use Rattle.rules.specs.SnapshotsMigrationCertificates.{Row, rowValidation, rowsValidation, restoredSeat, restoredPlaces}
 use Rattle.rules.specs.Domain.{RowFits}
 use Rattle.rules.proofs.Tests.{by-bool, or-false}

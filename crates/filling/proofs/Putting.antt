@@ -11,8 +11,8 @@ use lib.ListN.{length, take, drop}
 use lib.Seq.{append-snoc}
 use lib.Signed.{ltZ}
 use Rattle.rules.specs.Lists.{sum, All}
-use Rattle.rules.specs.RoomAndSoundLedger.{M, Name, IsByte, Ledger, isVacant, committedTotal, fresh}
-use Rattle.rules.specs.AccountRules.{natural, seated, hasRoom, withPlaces}
+use Rattle.rules.specs.RoomAndSoundLedger.{M, Name, IsByte, Ledger, isVacant, withPlaces, committedTotal, fresh}
+use Rattle.rules.specs.AccountRules.{natural, seated, hasRoom}
 use Rattle.rules.specs.SnapshotsMigrationCertificates.{Row, Snapshot, snapshotOfBytes, hasLongName, validation, restoredSeat, restoredPlaces}
 use Rattle.rules.proofs.Lists.{none-any}
 use Rattle.rules.proofs.Checks.{both-pass, check-passes, validation-passes}

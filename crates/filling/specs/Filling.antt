@@ -5,8 +5,8 @@ use mathlib.Core.List.{List}
 use mathlib.Core.Option.{none, some}
 use Prim.Native.Nat.{ℕ, _≤_, min}
 use lib.ListN.{length}
-use Rattle.rules.specs.RoomAndSoundLedger.{M, Ledger, committedTotal, fresh}
-use Rattle.rules.specs.AccountRules.{natural, withPlaces}
+use Rattle.rules.specs.RoomAndSoundLedger.{M, Ledger, withPlaces, committedTotal, fresh}
+use Rattle.rules.specs.AccountRules.{natural}
 use Rattle.rules.specs.SnapshotsMigrationCertificates.{Row, Snapshot, snapshotOfBytes, hasLongName, validation, restoredPlaces}
 use Rattle.moves.specs.declared.Seat.{Seat}
 use Rattle.room.specs.Contents.{contentsOf}

@@ -8,9 +8,9 @@ use native.Mathlib.Omega.{arith}
 use lib.IntN.{ℤ}
 use lib.ListN.{length, getD, take, drop, List·getD-map}
 use Rattle.rules.specs.Lists.{All, sum}
-use Rattle.rules.specs.RoomAndSoundLedger.{Account, Seat as RulesSeat, Place as RulesPlace, Booking as RulesBooking, Ledger, seatIn, hasAccount, holdsPlace, reservedFor, AddsUp}
+use Rattle.rules.specs.RoomAndSoundLedger.{Account, Seat as RulesSeat, Place as RulesPlace, Booking as RulesBooking, Ledger, withPlaces, withBookings, seatIn, hasAccount, holdsPlace, reservedFor, AddsUp}
 use Rattle.rules.specs.AnswerNumbers.{Reply, Refusal, replyOf}
-use Rattle.rules.specs.AccountRules.{Settlement, leave, end, AccountOperation, operate, onBooking, settle, booked, ended, seated, withPlaces, withBookings, doneWith}
+use Rattle.rules.specs.AccountRules.{Settlement, leave, end, AccountOperation, operate, onBooking, settle, booked, ended, seated, doneWith}
 use Rattle.rules.specs.Domain.{AccountOperationFits}
 use Rattle.rules.proofs.Tests.{true-false}
 use Rattle.rules.proofs.Lists.{all-map}

@@ -8,9 +8,9 @@ use borrow.Author.Tests.{lt-ltb, le-ltb, eqb-false}
 use lib.Dec.{eqb}
 use lib.IntN.{ℤ, pos}
 use lib.ListN.{length}
-use Rattle.rules.specs.RoomAndSoundLedger.{M, Name, Seat as RulesSeat, Place as RulesPlace, Ledger, seatIn, hasAccount, holdsPlace, AddsUp}
+use Rattle.rules.specs.RoomAndSoundLedger.{M, Name, Seat as RulesSeat, Place as RulesPlace, Ledger, withPlaces, withBookings, seatIn, hasAccount, holdsPlace, AddsUp}
 use Rattle.rules.specs.AnswerNumbers.{Amount, Identifier as TheIdentifier, Reply, done, NameTooLong, ReservationsFull, Insufficient, Refusal, replyOf, outcome, refused}
-use Rattle.rules.specs.AccountRules.{Move, refuse, book, reserveChecks, reserveRule, nextIdIsM, reserve, operate, onName, perform, drawn, withPlaces, withBookings, seated}
+use Rattle.rules.specs.AccountRules.{Move, refuse, book, reserveChecks, reserveRule, nextIdIsM, reserve, operate, onName, perform, drawn, seated}
 use Rattle.rules.specs.Domain.{IsBytes, IsAmount}
 use Rattle.rules.proofs.Places.{seatIn-all, account-holds}
 use Rattle.moves.specs.Moves.{accountOf, meaning, keptSeat, SeatSound, reservingMove, ReservingSound}

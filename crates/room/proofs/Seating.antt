@@ -8,8 +8,8 @@ use Prim.Native.Nat.{ℕ, suc, _≤_, _<_}
 use native.Mathlib.Omega.{arith}
 use lib.ListN.{length, getD, List·getD-map, length-map}
 use Rattle.rules.specs.Lists.{first, any}
-use Rattle.rules.specs.RoomAndSoundLedger.{M, Name, same, Seat as RulesSeat, seat, Place as RulesPlace, place, Ledger, isVacant, isAt, seatOf, holdsPlace, seatIn, hasAccount, AddsUp, Sound}
-use Rattle.rules.specs.AccountRules.{put, freed, seated, withPlaces}
+use Rattle.rules.specs.RoomAndSoundLedger.{M, Name, same, Seat as RulesSeat, seat, Place as RulesPlace, place, Ledger, isVacant, withPlaces, isAt, seatOf, holdsPlace, seatIn, hasAccount, AddsUp, Sound}
+use Rattle.rules.specs.AccountRules.{put, freed, seated}
 use Rattle.rules.proofs.Tests.{by-bool, true-false}
 use Rattle.rules.proofs.Lists.{first-any, all-map, none-any, keep-all}
 use Rattle.rules.proofs.Names.{other}

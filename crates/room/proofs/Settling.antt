@@ -4,8 +4,8 @@ use mathlib.Core.Bool.{true, false}
 use mathlib.Core.List.{[], _∷_, _++_}
 use Prim.Native.Nat.{ℕ, suc, _<_}
 use lib.ListN.{length, take, drop}
-use Rattle.rules.specs.RoomAndSoundLedger.{Name, Ledger, isVacant, holdsPlace, Sound}
-use Rattle.rules.specs.AccountRules.{seated, ended, withPlaces, withBookings, drawn}
+use Rattle.rules.specs.RoomAndSoundLedger.{Name, Ledger, isVacant, withPlaces, withBookings, holdsPlace, Sound}
+use Rattle.rules.specs.AccountRules.{seated, ended, drawn}
 use Rattle.moves.specs.Moves.{meaning, SeatSound}
 use Rattle.moves.specs.declared.Seat.{Seat}
 use Rattle.room.specs.Contents.{withHead, appendedBooking, removedBooking}

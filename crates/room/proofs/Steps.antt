@@ -10,8 +10,8 @@ use borrow.Author.Tests.{eqb-true, ne-eqb}
 use lib.ListN.{length, getD, take, drop, set, replicate, length-map, length-append, length-drop}
 use lib.Seq.{take-at, drop-at, length-take-le}
 use Rattle.rules.specs.Lists.{first, keep, All, Pairwise}
-use Rattle.rules.specs.RoomAndSoundLedger.{Name, same, Seat, Place as RulesPlace, place, Booking as RulesBooking, Ledger, holdsPlace, seatIn, hasAccount, Sound}
-use Rattle.rules.specs.AccountRules.{put, freed, hasId, booked, ended, withPlaces, withBookings, drawn}
+use Rattle.rules.specs.RoomAndSoundLedger.{Name, same, Seat, Place as RulesPlace, place, Booking as RulesBooking, Ledger, withPlaces, withBookings, holdsPlace, seatIn, hasAccount, Sound}
+use Rattle.rules.specs.AccountRules.{put, freed, hasId, booked, ended, drawn}
 use Rattle.rules.proofs.Tests.{by-bool}
 use Rattle.rules.proofs.Lists.{all-map, all-both, keep-all}
 use Rattle.rules.proofs.Places.{more, length-put, account-holds}

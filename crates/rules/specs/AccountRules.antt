@@ -9,7 +9,7 @@ use lib.IntN.{ℤ, pos, negsuc, _-ℤ_}
 use lib.Signed.{ltZ}
 use lib.ListN.{length}
 use Rattle.rules.specs.Lists.{first, keep}
-use Rattle.rules.specs.RoomAndSoundLedger.{M, Name, order, Account, Seat, seat, Place, place, Booking, Ledger, isVacant, isAt, holdsPlace, seatIn, hasAccount, committedTotal}
+use Rattle.rules.specs.RoomAndSoundLedger.{M, Name, order, Account, Seat, seat, Place, place, Booking, Ledger, withNextId, withPlaces, withBookings, isVacant, isAt, holdsPlace, seatIn, hasAccount, committedTotal}
 use Rattle.rules.specs.AnswerNumbers.{Amount, Identifier, Count, Version, Reply, Refusal, NegativeAmount, InvalidAmount, MissingTenant, OverflowOfReserve, OverflowOfCommit, OverflowOfTopUp, ExposureLimitExceeded, Insufficient, MissingReservation, Overrun, AggregateOverflow, NameTooLong, NamesFull, ReservationsFull, done, replyOf, Outcome, outcome, refused, UnsoundLedger, Lent, sound, unsound}
 
 -- What a rule decides. `tell`: done, with these amounts, and nothing changes. `write`: done, and the seat is now this one.
@@ -149,15 +149,9 @@ booked i = first (hasId i)
 unfoldable pub ended : ℕ → List Booking → List Booking
 ended i = keep (λ b. not (hasId i b))
 
-abbrev pub withPlaces : Ledger → List Place → Ledger
-withPlaces L ps = record { T = L .T; R = L .R; nextId = L .nextId; lastVersion = L .lastVersion; baseline = L .baseline; places = ps; bookings = L .bookings }
-
-abbrev pub withBookings : Ledger → List Booking → Ledger
-withBookings L bs = record { T = L .T; R = L .R; nextId = L .nextId; lastVersion = L .lastVersion; baseline = L .baseline; places = L .places; bookings = bs }
-
 -- "next id grows by 1"
 abbrev pub drawn : Ledger → Ledger
-drawn L = record { T = L .T; R = L .R; nextId = suc (L .nextId); lastVersion = L .lastVersion; baseline = L .baseline; places = L .places; bookings = L .bookings }
+drawn L = withNextId L (suc (L .nextId))
 
 abbrev pub doneWith : List ℤ → Reply
 doneWith zs = done (map Amount zs)

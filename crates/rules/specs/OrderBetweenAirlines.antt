@@ -13,9 +13,9 @@ use Prim.Native.Nat.{ℕ, suc}
 use lib.Dec.{ltb, eqb}
 use lib.ListN.{length}
 use Rattle.rules.specs.Lists.{first, keep}
-use Rattle.rules.specs.RoomAndSoundLedger.{Name, same, Seat, Booking, Ledger, seatIn}
+use Rattle.rules.specs.RoomAndSoundLedger.{Name, same, Seat, Booking, Ledger, withBookings, seatIn}
 use Rattle.rules.specs.AnswerNumbers.{Value, Amount, Identifier, Version, Fence, Count, Field, YesOrNo, TheName, SnapshotBytes, Reply, reply, Outcome}
-use Rattle.rules.specs.AccountRules.{Checked, stopped, passed, reserveChecks, booked, withBookings, AccountOperation, ensure, topUp, limit, reserve, commit, release, readRemaining, readInitial, readCommitted, readReserved, isTooLong, nextIdIsM, operate}
+use Rattle.rules.specs.AccountRules.{Checked, stopped, passed, reserveChecks, booked, AccountOperation, ensure, topUp, limit, reserve, commit, release, readRemaining, readInitial, readCommitted, readReserved, isTooLong, nextIdIsM, operate}
 
 -- ── a run and the reservations that it names ───────────────────────────────────────────────────
 

@@ -89,6 +89,22 @@ pub record Ledger : Type 0 where
   pub places : List Place
   pub bookings : List Booking
 
+-- the ledger with one field changed
+abbrev pub withNextId : Ledger → ℕ → Ledger
+withNextId L n = record { T = L .T; R = L .R; nextId = n; lastVersion = L .lastVersion; baseline = L .baseline; places = L .places; bookings = L .bookings }
+
+abbrev pub withLastVersion : Ledger → ℕ → Ledger
+withLastVersion L v = record { T = L .T; R = L .R; nextId = L .nextId; lastVersion = v; baseline = L .baseline; places = L .places; bookings = L .bookings }
+
+abbrev pub withBaseline : Ledger → ℕ → Ledger
+withBaseline L n = record { T = L .T; R = L .R; nextId = L .nextId; lastVersion = L .lastVersion; baseline = n; places = L .places; bookings = L .bookings }
+
+abbrev pub withPlaces : Ledger → List Place → Ledger
+withPlaces L ps = record { T = L .T; R = L .R; nextId = L .nextId; lastVersion = L .lastVersion; baseline = L .baseline; places = ps; bookings = L .bookings }
+
+abbrev pub withBookings : Ledger → List Booking → Ledger
+withBookings L bs = record { T = L .T; R = L .R; nextId = L .nextId; lastVersion = L .lastVersion; baseline = L .baseline; places = L .places; bookings = bs }
+
 -- ── looking up ─────────────────────────────────────────────────────────────────────────────────
 
 abbrev pub isAt : Name → Place → Bool

@@ -8,9 +8,9 @@ use lib.IntN.{ℤ, pos, negsuc, _+ℤ_, _-ℤ_}
 use lib.Signed.{ltZ}
 use lib.ListN.{length, take, drop}
 use Rattle.rules.specs.Lists.{any}
-use Rattle.rules.specs.RoomAndSoundLedger.{M, Name, same, Account, Seat, seat, Place, Ledger, committedTotal, hasTag, fenceOf}
+use Rattle.rules.specs.RoomAndSoundLedger.{M, Name, same, Account, Seat, seat, Place, Ledger, withNextId, withLastVersion, withBaseline, withPlaces, withBookings, committedTotal, hasTag, fenceOf}
 use Rattle.rules.specs.AnswerNumbers.{remainingField, initialField, committedField, versionField, Amount, Version, Count, YesOrNo, SnapshotBytes, Reply, Refusal, AllocatorExhausted, ActiveReservations, DuplicateTenant, GhostReservation, NegativeLedgerField, ConservationViolation, AggregateOverflow, AlreadyRecoveryAware, InvalidAllocatorFence, LegacySnapshotRequiresMigration, NameTooLong, NamesFull, OutputTooShort, done, replyOf, Outcome, outcome, refused, BadFrame, Lent, Answered, answered}
-use Rattle.rules.specs.AccountRules.{account, natural, put, isTooLong}
+use Rattle.rules.specs.AccountRules.{account, natural, put, drawn, isTooLong}
 
 -- ── snapshot bytes ─────────────────────────────────────────────────────────────────────────────
 
@@ -171,7 +171,7 @@ tagged fence = 2 ^ 63 + fence
 
 -- "next id grows by 1 and the version is 2^63 plus the new next id, stored as last version"
 abbrev pub afterSnapshot : Ledger → Ledger
-afterSnapshot L = record { T = L .T; R = L .R; nextId = suc (L .nextId); lastVersion = tagged (suc (L .nextId)); baseline = L .baseline; places = L .places; bookings = L .bookings }
+afterSnapshot L = withLastVersion (drawn L) (tagged (drawn L .nextId))
 
 abbrev pub snapshotOf : Ledger → Snapshot
 snapshotOf L = record { version = tagged (suc (L .nextId)); active = length (L .bookings); rows = accountRows (L .places) }
@@ -287,7 +287,8 @@ restoredPlaces (r ∷ rs) = put (r .name) (restoredSeat r) (restoredPlaces rs)
 abbrev pub restored : Ledger → Snapshot → Ledger
 restored L s =
     let ps : List Place = restoredPlaces (s .rows) in
-    record { T = L .T; R = L .R; nextId = fenceOf (s .version); lastVersion = s .version; baseline = min (committedTotal ps) M; places = ps; bookings = [] }
+    let cleared : Ledger = withBookings (withPlaces L ps) [] in
+    withBaseline (withLastVersion (withNextId cleared (fenceOf (s .version))) (s .version)) (min (committedTotal ps) M)
 
 unfoldable pub orElse : Option Refusal → Ledger → Ledger → Outcome
 orElse none L after = outcome (done []) after
@@ -372,9 +373,6 @@ certificateOfSnapshot since s = replyOr (hasLongName (s .rows) gives NameTooLong
 
 -- ── certificate of the ledger, conservation proof ──────────────────────────────────────────────
 
-abbrev pub withBaseline : ℕ → Ledger → Ledger
-withBaseline n L = record { T = L .T; R = L .R; nextId = L .nextId; lastVersion = L .lastVersion; baseline = n; places = L .places; bookings = L .bookings }
-
 -- "Certificate of the ledger: takes a snapshot (9 possible ..). Since is committed total less baseline, and the baseline moves, only if the
 -- totals fit and the total is larger; else 0."
 unfoldable pub certificateOfLedger : Ledger → Outcome
@@ -383,7 +381,7 @@ certificateOfLedger L =
     let total : ℕ = committedTotal (L .places) in
     takingSnapshot L
     (cond (totalsFit (s .rows) && ltb (L .baseline) total)
-    (outcome (certificate s (pos (total - L .baseline))) (withBaseline total (afterSnapshot L)))
+    (outcome (certificate s (pos (total - L .baseline))) (withBaseline (afterSnapshot L) total))
     (outcome (certificate s (pos 0)) (afterSnapshot L)))
 
 -- "Proof: takes a snapshot (9), then 15 if totals don't fit, else version, accounts, active, both totals, 1."

@@ -9,8 +9,8 @@ use borrow.Author.Tests.{eq-eqb, ne-eqb, lt-ltb, le-ltb}
 use lib.Dec.{eqb}
 use lib.ListN.{length}
 use Rattle.rules.specs.Lists.{All}
-use Rattle.rules.specs.RoomAndSoundLedger.{Name, Place, Ledger, isVacant, holdsPlace, seatIn, hasAccount}
-use Rattle.rules.specs.AccountRules.{seated, hasRoom, withPlaces}
+use Rattle.rules.specs.RoomAndSoundLedger.{Name, Place, Ledger, isVacant, withPlaces, holdsPlace, seatIn, hasAccount}
+use Rattle.rules.specs.AccountRules.{seated, hasRoom}
 use Rattle.rules.proofs.Tests.{by-bool}
 use Rattle.rules.proofs.Lists.{all-map}
 use Rattle.rules.proofs.Keys.{all-images}

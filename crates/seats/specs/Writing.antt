@@ -5,8 +5,8 @@ use mathlib.Core.Bool.{cond}
 use mathlib.Core.List.{List}
 use Prim.Native.Nat.{ℕ}
 use lib.ListN.{length}
-use Rattle.rules.specs.RoomAndSoundLedger.{Name, Ledger}
-use Rattle.rules.specs.AccountRules.{seated, hasRoom, withPlaces}
+use Rattle.rules.specs.RoomAndSoundLedger.{Name, Ledger, withPlaces}
+use Rattle.rules.specs.AccountRules.{seated, hasRoom}
 use Rattle.moves.specs.Moves.{meaning}
 use Rattle.moves.specs.declared.Seat.{Seat}
 use Rattle.room.specs.Contents.{contentsOf}

@@ -2,7 +2,8 @@
 use mathlib.Core.Path.{_∙_, ap}
 use mathlib.Core.Bool.{cond}
 use borrow.Author.Needs.{needs}
-use Rattle.rules.specs.AccountRules.{seated, withPlaces}
+use Rattle.rules.specs.RoomAndSoundLedger.{withPlaces}
+use Rattle.rules.specs.AccountRules.{seated}
 use Rattle.rules.proofs.Tests.{true-false}
 use Rattle.moves.specs.Moves.{meaning}
 use Rattle.room.specs.Room.{contentsIn}
