@@ -24,7 +24,6 @@ use Rattle.snapshot_writer.specs.declared.Snapshotted.the-variants as snapshott
 use Rattle.snapshot_writer.proofs.Snapshotted.{enum}
 
 longest-is : longestSnapshot ≡ 14610
-unfolding longestSnapshot
 longest-is = refl
 
 module _ {size : ℕ} (long : 14610 ≤ size) where

@@ -9,10 +9,10 @@ use borrow.Author.Tests.{lt-ltb, ne-eqb}
 use lib.Dec.{ltb, eqb}
 use lib.ListN.{length}
 use Rattle.rules.specs.Lists.{All}
-use Rattle.rules.specs.RoomAndSoundLedger.{Ledger, Sound, fresh}
+use Rattle.rules.specs.RoomAndSoundLedger.{mostNames, mostReservations, Ledger, Sound, fresh}
 use Rattle.rules.specs.AnswerNumbers.{BadFrame, replyOf, Lent, sound, LentSound, answered}
 use Rattle.rules.specs.SnapshotsMigrationCertificates.{snapshotOf, tooShortFor}
-use Rattle.rules.specs.Frames.{longestSnapshot, characterOf, lineOfBytes, operationOfLine, answerOr23, answerToLine, answerLine, replyBytes, lineFeed, pieces, counted, linesOf, answersToLines}
+use Rattle.rules.specs.Frames.{longestSnapshot, replyBytes, characterOf, lineOfBytes, answerLine, longestLine, operationOfLine, answerOr23, answerToLine, lineFeed, pieces, counted, linesOf, answersToLines}
 use Rattle.rules.proofs.Tests.{by-test, by-option}
 use Rattle.rules.proofs.SnapshotSoundness.{answer-sound, fresh-sound}
 use Rattle.rules.proofs.OwnSnapshot.{rows-length, own-names-short}
@@ -33,8 +33,8 @@ unfolding lentAfter
 lines-sound l known [] = known
 lines-sound l known (line ∷ lines) = lines-sound (answerToLine l line .lent) (line-sound l known line) lines
 
-pub house-sound : (lines : List (List ℕ)) → LentSound (lentAfter (sound (fresh 256 1024)) lines)
-house-sound lines = lines-sound (sound (fresh 256 1024)) (fresh-sound 256 1024 (omega arith, omega arith) (omega arith, omega arith)) lines
+pub house-sound : (lines : List (List ℕ)) → LentSound (lentAfter (sound (fresh mostNames mostReservations)) lines)
+house-sound lines = lines-sound (sound (fresh mostNames mostReservations)) (fresh-sound mostNames mostReservations (omega arith, omega arith) (omega arith, omega arith)) lines
 
 -- the output goes line by line: after some lines comes what the ledger after them answers
 pub answers-append : (l : Lent) (before later : List (List ℕ)) → answersToLines l (before ++ later) ≡ answersToLines l before ++ answersToLines (lentAfter l before) later
@@ -46,9 +46,9 @@ pub own-snapshot-has-room : (L : Ledger) → Sound L → tooShortFor longestSnap
 own-snapshot-has-room L s = never-too-short (snapshotOf L) (omega (arith, rows-length (L .places), s .names-fit, s .names-in-range .1)) (own-names-short (L .places) (s .are-names))
 
 -- "a longer one gets one 23"
-pub too-long-line : (l : Lent) (line : List ℕ) → 29238 < length line → answerToLine l line ≡ answered (replyOf BadFrame) l
+pub too-long-line : (l : Lent) (line : List ℕ) → longestLine < length line → answerToLine l line ≡ answered (replyOf BadFrame) l
 unfolding answerToLine operationOfLine
-too-long-line l line h = rw (lt-ltb 29238 (length line) h)
+too-long-line l line h = rw (lt-ltb longestLine (length line) h)
 
 -- ── one answer line each ───────────────────────────────────────────────────────────────────────
 

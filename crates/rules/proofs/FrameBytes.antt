@@ -15,11 +15,11 @@ use Rattle.rules.specs.Lists.{first, All}
 use Rattle.rules.specs.RoomAndSoundLedger.{Name, IsByte}
 use Rattle.rules.specs.AccountRules.{AccountOperation, ensure, topUp, limit, reserve}
 use Rattle.rules.specs.SnapshotsMigrationCertificates.{Snapshot, bytesOf}
-use Rattle.rules.specs.Frames.{isBetween, digitOf, byteBefore, bytesOfLine, Operation, restoreFrom, recoverFrom, judge, migrateTo, certify, nameAndAmount, aSnapshot, codes, bodyOf, readOperation, operationOf, characterOf, lineOfBytes, operationOfBytes, operationOfLine}
+use Rattle.rules.specs.Frames.{isBetween, digitOf, byteBefore, bytesOfLine, Operation, restoreFrom, recoverFrom, judge, migrateTo, certify, nameAndAmount, aSnapshot, codes, bodyOf, readOperation, operationOf, characterOf, lineOfBytes, operationOfBytes, longestLine, operationOfLine}
 use Rattle.rules.specs.Domain.{IsAmount, IsBytes, AccountOperationFits, SnapshotFits, OperationFits}
-use Rattle.rules.proofs.Tests.{by-test, by-option, none-some, and-true}
+use Rattle.rules.proofs.Tests.{by-test, by-option, and-true, none-some}
 use Rattle.rules.proofs.Lists.{first-all}
-use Rattle.rules.proofs.Reading.{Read, ReadsAfter, only-reads, only-then, whole-only, number-only, amount-only, name-only}
+use Rattle.rules.proofs.Reading.{Read, ReadsAfter, only-reads, whole-only, number-only, amount-only, name-only, only-then}
 use Rattle.rules.proofs.SnapshotBytes.{readSnapshot-only}
 
 -- ── digits and their characters ────────────────────────────────────────────────────────────────
@@ -122,7 +122,7 @@ operation-fits bs bytes x e = whole-only operation-read bs bytes x e
 -- whatever characters the line has
 pub line-fits : (line : List ℕ) (x : Operation) → operationOfLine line ≡ some x → OperationFits x
 unfolding operationOfLine
-line-fits line x e = by-test (λ o. o ≡ some x → OperationFits x) (ltb 29238 (length line))
+line-fits line x e = by-test (λ o. o ≡ some x → OperationFits x) (ltb longestLine (length line))
     (λ _ q. none-some q)
     (λ _. by-option (λ o. operationOfBytes o ≡ some x → OperationFits x) (bytesOfLine line)
     (λ _ q. none-some q)

@@ -7,8 +7,8 @@ use Prim.Native.Nat.{ℕ}
 use lib.IntN.{pos}
 use Rattle.rules.specs.Lists.{first, any, keep}
 use Rattle.rules.specs.RoomAndSoundLedger.{M, Name, order, same, seat, place, Booking, Ledger, holdsPlace, seatIn, fresh}
-use Rattle.rules.specs.AnswerNumbers.{Amount, Identifier, Insufficient, done, replyOf}
-use Rattle.rules.specs.AccountRules.{account, doneWith, ensureRule, limitRule, reserveChecks, reserveRule, commitRule, releaseRule, readRule, readReservedRule, put, seated, booked, ended, perform, settle, ensure, limit, reserve, commit, release, readRemaining, readReserved, onName, onBooking, operate}
+use Rattle.rules.specs.AnswerNumbers.{Amount, Identifier, done, Insufficient, replyOf}
+use Rattle.rules.specs.AccountRules.{account, ensureRule, limitRule, reserveChecks, reserveRule, commitRule, releaseRule, readRule, readReservedRule, put, seated, booked, ended, doneWith, perform, settle, ensure, limit, reserve, commit, release, readRemaining, readReserved, onName, onBooking, operate}
 use Rattle.rules.specs.OrderBetweenAirlines.{liveAtStart, grant, reference, Run, airlineOf, sameWhich, idOf, referenceOf, grantsOf, start, withId, idIn, grantedId, outcomeAt, onward, after, withoutIds, Answer, answerTo, answersOf, answersTo, ownOperations, KeepsOwnOrder, meetsEndOfIds, meets, runMeets, pairedId, insertById, inIdOrder, paired}
 use Rattle.rules.proofs.Names.{same-or-not}
 

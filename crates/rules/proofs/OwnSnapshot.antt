@@ -9,14 +9,14 @@ use native.Mathlib.Omega.{arith}
 use borrow.Author.Tests.{le-leb, le-ltb, eq-eqb, ne-eqb}
 use lib.ListN.{length}
 use Rattle.rules.specs.Lists.{first, any, sum, All, Pairwise}
-use Rattle.rules.specs.RoomAndSoundLedger.{M, Name, IsName, order, same, Account, Seat, seat, Place, place, Ledger, isAt, seatOf, seatIn, reservedFor, Before, AddsUp, Reserves, Sound}
-use Rattle.rules.specs.AnswerNumbers.{Refusal, done, Outcome}
+use Rattle.rules.specs.RoomAndSoundLedger.{M, longestName, Name, IsName, order, same, Account, Seat, seat, Place, place, Ledger, isAt, seatOf, seatIn, reservedFor, Before, AddsUp, Reserves, Sound}
+use Rattle.rules.specs.AnswerNumbers.{done, Refusal, Outcome}
 use Rattle.rules.specs.AccountRules.{put, isTooLong, nextIdIsM}
 use Rattle.rules.specs.SnapshotsMigrationCertificates.{Row, hasLongName, rowOf, rowAt, accountRows, afterSnapshot, snapshotOf, _gives_else_, andThen, rowConservation, conservation, rowValidation, rowsValidation, validation, restoreVersion, recoveryVersion, restoredSeat, restoredPlaces, restored, orElse, restoreRefusal, restore, recoveryRestore}
 use Rattle.rules.specs.Domain.{RowFits, SnapshotFits}
 use Rattle.rules.proofs.Tests.{by-bool, by-option}
-use Rattle.rules.proofs.Lists.{all-map, all-both, any-none}
-use Rattle.rules.proofs.Names.{lt-other, other, same-true, same-false}
+use Rattle.rules.proofs.Lists.{any-none, all-map, all-both}
+use Rattle.rules.proofs.Names.{same-true, same-false, other, lt-other}
 use Rattle.rules.proofs.Places.{Over, over-first}
 use Rattle.rules.proofs.Soundness.{not-last}
 use Rattle.rules.proofs.SnapshotSoundness.{tagged-tag, tagged-fence}
@@ -76,7 +76,7 @@ own-names-short ps h = any-none _ (accountRows ps) (rows-all (λ r. isTooLong (r
   where
     go : (a : Name) → IsName a → (c : Option Account) → IfAccount (λ a c. isTooLong a ≡ false) a c
     go a n none = tt
-    go a n (some c) = le-ltb 24 (length a) (n .fits)
+    go a n (some c) = le-ltb longestName (length a) (n .fits)
 
 -- ── it is balanced ─────────────────────────────────────────────────────────────────────────────
 

@@ -10,7 +10,7 @@ use lib.Dec.{ltb, eqb}
 use lib.IntN.{ℤ, pos}
 use lib.ListN.{length}
 use Rattle.rules.specs.RoomAndSoundLedger.{Name, Account, Seat, Booking, Ledger, withPlaces, withBookings, seatIn}
-use Rattle.rules.specs.AnswerNumbers.{Value, Amount, Identifier, Reply, Refusal, NegativeAmount, InvalidAmount, MissingTenant, OverflowOfReserve, OverflowOfCommit, OverflowOfTopUp, ExposureLimitExceeded, Insufficient, MissingReservation, Overrun, AllocatorExhausted, ActiveReservations, DuplicateTenant, GhostReservation, NegativeLedgerField, ConservationViolation, AggregateOverflow, AlreadyRecoveryAware, InvalidAllocatorFence, LegacySnapshotRequiresMigration, NameTooLong, NamesFull, ReservationsFull, OutputTooShort, BadFrame, UnsoundLedger, done, replyOf, Outcome}
+use Rattle.rules.specs.AnswerNumbers.{Value, Amount, Identifier, Reply, done, Refusal, NegativeAmount, InvalidAmount, MissingTenant, OverflowOfReserve, OverflowOfCommit, OverflowOfTopUp, ExposureLimitExceeded, Insufficient, MissingReservation, Overrun, AllocatorExhausted, ActiveReservations, DuplicateTenant, GhostReservation, NegativeLedgerField, ConservationViolation, AggregateOverflow, AlreadyRecoveryAware, InvalidAllocatorFence, LegacySnapshotRequiresMigration, NameTooLong, NamesFull, ReservationsFull, OutputTooShort, BadFrame, UnsoundLedger, replyOf, Outcome}
 use Rattle.rules.specs.AccountRules.{Move, refuse, tell, write, lose, book, Settlement, leave, end, ensureRule, topUpRule, limitRule, Checked, stopped, passed, reserveChecks, reserveRule, commitRule, commitOfNone, releaseRule, readRule, readReservedRule, seated, hasRoom, booked, ended, drawn, doneWith, perform, settle, AccountOperation, ensure, topUp, limit, reserve, commit, release, readRemaining, readInitial, readCommitted, readReserved, isTooLong, named, onName, onBooking, nextIdIsM, operate}
 use Rattle.rules.specs.OrderBetweenAirlines.{Which, grant, Reference, reference, airlineOf, Note, note, idOf, grantsOf, Stage, stage, withId, idIn, grantedId, withGrant, outcomeAt, passesChecks, meetsEndOfIds, meets}
 use Rattle.rules.proofs.Tests.{by-test, by-bool, true-false, or-false}

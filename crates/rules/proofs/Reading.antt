@@ -146,12 +146,12 @@ amount-only = only-then (number-only 8)
     (λ w h. only-reads (rw (word-of-signed w h), signed-fits w h))
 
 -- one byte holds a name's length
-byte-is : (n : ℕ) → n < 256 → bytesOf 1 n ≡ n ∷ []
+byte-is : (n : ℕ) → IsByte n → bytesOf 1 n ≡ n ∷ []
 unfolding bytesOf
 byte-is n h = rw (mod-eq-of-lt h)
 
 abbrev pub NameFits : Name → Type 0
-NameFits a = IsBytes a × (length a < 256)
+NameFits a = IsBytes a × IsByte (length a)
 
 pub name-back : (a : Name) → NameFits a → ReadsBack readName (nameBytes a) a
 unfolding readName

@@ -12,7 +12,7 @@ use lib.ListN.{length}
 use Rattle.rules.specs.RoomAndSoundLedger.{M, Name, Account, Booking, Ledger, committedTotal, InRange}
 use Rattle.rules.specs.AnswerNumbers.{Reply, Refusal, NegativeAmount, InvalidAmount, MissingTenant, OverflowOfReserve, OverflowOfCommit, OverflowOfTopUp, ExposureLimitExceeded, Insufficient, MissingReservation, Overrun, AllocatorExhausted, ActiveReservations, DuplicateTenant, GhostReservation, NegativeLedgerField, ConservationViolation, AggregateOverflow, AlreadyRecoveryAware, InvalidAllocatorFence, LegacySnapshotRequiresMigration, NameTooLong, NamesFull, ReservationsFull, OutputTooShort, BadFrame, UnsoundLedger, replyOf, Outcome, sound, Answered, answered, onLent}
 use Rattle.rules.specs.AccountRules.{Move, refuse, tell, write, lose, book, Settlement, leave, end, ensureRule, topUpRule, limitRule, reserveChecks, reserveRule, commitRule, commitOfNone, releaseRule, readRule, readReservedRule, hasRoom, booked, drawn, perform, settle, AccountOperation, ensure, topUp, limit, reserve, commit, release, readRemaining, readInitial, readCommitted, readReserved, isTooLong, named, onName, onBooking, nextIdIsM, operate}
-use Rattle.rules.specs.SnapshotsMigrationCertificates.{snapshotOf, afterSnapshot, takingSnapshot, tooShortFor, snapshot, totalsFit, orElse, restore, recoveryRestore, replyOr, migrate, status, certificate, certificateOfSnapshot, certificateOfLedger, conservationProof}
+use Rattle.rules.specs.SnapshotsMigrationCertificates.{afterSnapshot, snapshotOf, takingSnapshot, tooShortFor, snapshot, orElse, restore, recoveryRestore, replyOr, migrate, status, totalsFit, certificate, certificateOfSnapshot, certificateOfLedger, conservationProof}
 use Rattle.rules.specs.Frames.{Operation, onAccount, takeSnapshot, certifyLedger, proveConservation, restoreFrom, recoverFrom, judge, migrateTo, certify, answer, operationOfLine, answerToLine}
 use Rattle.rules.proofs.Tests.{by-test}
 

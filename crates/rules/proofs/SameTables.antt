@@ -10,7 +10,7 @@ use native.Mathlib.Omega.{arith}
 use borrow.Author.Tests.{ltb-true, ltb-false, eqb-true, eq-eqb, ne-eqb}
 use lib.Dec.{ltb, eqb}
 use Rattle.rules.specs.Lists.{first, All, Pairwise}
-use Rattle.rules.specs.RoomAndSoundLedger.{Name, order, same, Seat, Place, place, Booking, isVacant, isAt, seatOf, seatIn, Before}
+use Rattle.rules.specs.RoomAndSoundLedger.{Name, order, same, Seat, Place, place, isVacant, Booking, isAt, seatOf, seatIn, Before}
 use Rattle.rules.specs.AccountRules.{hasId, booked}
 use Rattle.rules.specs.OrderBetweenAirlines.{insertById, inIdOrder}
 use Rattle.rules.proofs.Tests.{by-test, by-bool, by-option}

@@ -9,15 +9,15 @@ use borrow.Author.Tests.{ltb-false, le-ltb}
 use lib.Dec.{ltb}
 use lib.ListN.{length, length-append}
 use Rattle.rules.specs.Lists.{sum, All}
-use Rattle.rules.specs.RoomAndSoundLedger.{IsByte}
+use Rattle.rules.specs.RoomAndSoundLedger.{longestName, IsByte}
 use Rattle.rules.specs.AccountRules.{isTooLong}
-use Rattle.rules.specs.SnapshotsMigrationCertificates.{Row, Snapshot, bytesOf, rowBytes, snapshotBytes, readRow, readRows, readCount, readSnapshot, snapshotOfBytes, hasLongName, tooShortFor}
+use Rattle.rules.specs.SnapshotsMigrationCertificates.{Row, Snapshot, mostRows, bytesOf, rowBytes, snapshotBytes, readRow, readRows, readCount, readSnapshot, snapshotOfBytes, hasLongName, tooShortFor}
 use Rattle.rules.specs.Frames.{longestSnapshot}
 use Rattle.rules.specs.Domain.{RowFits, SnapshotFits}
 use Rattle.rules.proofs.Tests.{by-test, none-some}
 use Rattle.rules.proofs.Lists.{none-any}
 use Rattle.rules.proofs.Numbers.{bytes-length}
-use Rattle.rules.proofs.Reading.{ReadsBack, whole-back, Read, WrittenBy, ReadsOnly, only-reads, only-then, whole-only, number-back, number-only, amount-back, amount-only, name-back, name-only}
+use Rattle.rules.proofs.Reading.{ReadsBack, whole-back, Read, WrittenBy, ReadsOnly, only-reads, whole-only, number-back, number-only, amount-back, amount-only, name-back, name-only, only-then}
 
 -- ── what was written is read back ──────────────────────────────────────────────────────────────
 
@@ -36,9 +36,9 @@ unfolding readRows flatMap
 rows-back [] h rest = refl
 rows-back (r ∷ rs) (h, k) rest = rw (append-assoc, row-back r h, rows-back rs k)
 
-count-back : (n : ℕ) → n ≤ 256 → ReadsBack readCount (bytesOf 2 n) n
+count-back : (n : ℕ) → n ≤ mostRows → ReadsBack readCount (bytesOf 2 n) n
 unfolding readCount
-count-back n h rest = rw (number-back 2 n (omega arith) rest, le-ltb 256 n h)
+count-back n h rest = rw (number-back 2 n (omega arith) rest, le-ltb mostRows n h)
 
 pub readSnapshot-back : (s : Snapshot) → SnapshotFits s → ReadsBack readSnapshot (snapshotBytes s) s
 unfolding readSnapshot snapshotBytes
@@ -77,12 +77,12 @@ rows-only (suc count) =
     only-then (rows-only count) λ rs (l, k).
     only-reads (refl, (ap suc l, (h, k)))
 
-count-only : ReadsOnly readCount (bytesOf 2) (λ n. n ≤ 256)
+count-only : ReadsOnly readCount (bytesOf 2) (λ n. n ≤ mostRows)
 unfolding readCount
 count-only = only-then (number-only 2) λ n h. record {
-  read = λ bs bytes r. by-test (λ o. o ≡ some r → Read (WrittenBy (bytesOf 2) (λ n. n ≤ 256)) (bytesOf 2 n ++ bs) r) (ltb 256 n)
+  read = λ bs bytes r. by-test (λ o. o ≡ some r → Read (WrittenBy (bytesOf 2) (λ n. n ≤ mostRows)) (bytesOf 2 n ++ bs) r) (ltb mostRows n)
       (λ t q. none-some q)
-      (λ t q. only-reads (refl, ltb-false 256 n t) .read bs bytes r q);
+      (λ t q. only-reads (refl, ltb-false mostRows n t) .read bs bytes r q);
 }
 
 pub readSnapshot-only : ReadsOnly readSnapshot snapshotBytes SnapshotFits
@@ -119,12 +119,12 @@ snapshot-length s = simp (length-append, bytes-length, rows-length) (omega arith
 rows-longest : (rs : List Row) → All (λ r. isTooLong (r .name) ≡ false) rs → sum rowLength rs ≤ length rs * 57
 unfolding sum
 rows-longest [] h = omega arith
-rows-longest (r ∷ rs) (h, k) = omega (arith, ltb-false 24 (length (r .name)) h, rows-longest rs k)
+rows-longest (r ∷ rs) (h, k) = omega (arith, ltb-false longestName (length (r .name)) h, rows-longest rs k)
 
-pub longest : (s : Snapshot) → length (s .rows) ≤ 256 → hasLongName (s .rows) ≡ false → length (snapshotBytes s) ≤ longestSnapshot
-unfolding hasLongName longestSnapshot
+pub longest : (s : Snapshot) → length (s .rows) ≤ mostRows → hasLongName (s .rows) ≡ false → length (snapshotBytes s) ≤ longestSnapshot
+unfolding hasLongName
 longest s l h = omega (arith, snapshot-length s, rows-longest (s .rows) (none-any _ (s .rows) h))
 
 -- so that no frame meets 22
-pub never-too-short : (s : Snapshot) → length (s .rows) ≤ 256 → hasLongName (s .rows) ≡ false → tooShortFor longestSnapshot s ≡ false
+pub never-too-short : (s : Snapshot) → length (s .rows) ≤ mostRows → hasLongName (s .rows) ≡ false → tooShortFor longestSnapshot s ≡ false
 never-too-short s l h = le-ltb longestSnapshot (length (snapshotBytes s)) (longest s l h)

@@ -11,17 +11,17 @@ use lib.Dec.{ltb}
 use lib.IntN.{pos}
 use lib.ListN.{length}
 use Rattle.rules.specs.Lists.{sum, All, Pairwise}
-use Rattle.rules.specs.RoomAndSoundLedger.{M, IsName, Account, seat, Place, place, Ledger, holdsPlace, reservedFor, committedOf, committedTotal, InRange, Before, hasTag, fenceOf, isVacant, Sound, fresh}
+use Rattle.rules.specs.RoomAndSoundLedger.{M, longestName, mostNames, mostReservations, IsName, Account, seat, Place, place, isVacant, Ledger, holdsPlace, reservedFor, committedOf, committedTotal, InRange, Before, hasTag, fenceOf, Sound, fresh}
 use Rattle.rules.specs.AnswerNumbers.{Refusal, Outcome, Lent, sound, unsound, LentSound, onLent}
 use Rattle.rules.specs.AccountRules.{account, natural, isTooLong, nextIdIsM}
-use Rattle.rules.specs.SnapshotsMigrationCertificates.{Row, Snapshot, rowAt, accountRows, tagged, afterSnapshot, snapshotOf, takingSnapshot, tooShortFor, snapshot, fits64, exactTotal, initialTotal, committedRowsTotal, totalsFit, restoredSeat, restoredPlaces, restored, orElse, restoreVersion, recoveryVersion, restoreRefusal, restore, recoveryRestore, certificateOfLedger, conservationProof}
+use Rattle.rules.specs.SnapshotsMigrationCertificates.{Row, Snapshot, rowAt, accountRows, tagged, afterSnapshot, snapshotOf, takingSnapshot, tooShortFor, snapshot, fits64, restoreVersion, recoveryVersion, restoredSeat, restoredPlaces, restored, orElse, restoreRefusal, restore, recoveryRestore, exactTotal, initialTotal, committedRowsTotal, totalsFit, certificateOfLedger, conservationProof}
 use Rattle.rules.specs.Frames.{Operation, onAccount, takeSnapshot, certifyLedger, proveConservation, restoreFrom, recoverFrom, judge, migrateTo, certify, longestSnapshot, answer}
 use Rattle.rules.specs.Domain.{RowFits, SnapshotFits, OperationFits}
 use Rattle.rules.proofs.Tests.{by-test, by-option, and-true}
 use Rattle.rules.proofs.Lists.{all-map, all-both}
 use Rattle.rules.proofs.Places.{seatIn-all, all-put, ascend-put, more, length-put}
 use Rattle.rules.proofs.SoundByName.{AccountSound, AccountsSound, PlacesSound, SoundByName, by-name, by-place}
-use Rattle.rules.proofs.Soundness.{bookings-after-draw, not-last, operate-sound}
+use Rattle.rules.proofs.Soundness.{not-last, bookings-after-draw, operate-sound}
 use Rattle.rules.proofs.Checks.{Restorable, VersionPasses, restore-version-passes, recovery-version-passes, RestorePasses, restore-passes}
 
 -- ── a version and its fence ────────────────────────────────────────────────────────────────────
@@ -128,7 +128,7 @@ pub restored-account : (r : Row) → RowFits r → Restorable r → AccountSound
 restored-account r f h = (omega (arith, h .adds-up), leb-true (natural (r .initial)) M (subst (λ z. fits64 z ≡ true) (h .initial) (f .initial)), refl)
 
 restored-name : (r : Row) → RowFits r → isTooLong (r .name) ≡ false → IsName (r .name)
-restored-name r f e = record { fits = ltb-false 24 (length (r .name)) e; bytes = f .bytes }
+restored-name r f e = record { fits = ltb-false longestName (length (r .name)) e; bytes = f .bytes }
 
 fence-in-range : (v : ℕ) → VersionPasses v → InRange 1 M (fenceOf v)
 unfolding M
@@ -201,7 +201,7 @@ answer-sound (sound L) known x f = answer-keeps L known x f
 answer-sound unsound known x f = unsound-stays x
 
 -- a fresh ledger is sound where T and R are in range
-pub fresh-sound : (t r : ℕ) → InRange 1 256 t → InRange 1 1024 r → Sound (fresh t r)
+pub fresh-sound : (t r : ℕ) → InRange 1 mostNames t → InRange 1 mostReservations r → Sound (fresh t r)
 unfolding fresh M committedTotal sum
 fresh-sound t r names reservations = record {
   names-in-range = names;

@@ -9,7 +9,7 @@ use Prim.Native.Nat.{ℕ, _+_, _≤_, _<_}
 use native.Mathlib.Omega.{arith}
 use lib.ListN.{length}
 use Rattle.rules.specs.Lists.{first, sum, All, Pairwise}
-use Rattle.rules.specs.RoomAndSoundLedger.{M, Name, IsName, same, Account, Place, Booking, Ledger, isVacant, isAt, seatOf, seatIn, hasAccount, share, reservedFor, committedTotal, InRange, Before, AddsUp, Reserves, hasTag, fenceOf, Sound}
+use Rattle.rules.specs.RoomAndSoundLedger.{M, mostNames, mostReservations, Name, IsName, same, Account, Place, isVacant, Booking, Ledger, isAt, seatOf, seatIn, hasAccount, share, reservedFor, committedTotal, InRange, Before, AddsUp, Reserves, hasTag, fenceOf, Sound}
 use Rattle.rules.proofs.Tests.{by-bool, by-option, true-false}
 use Rattle.rules.proofs.Lists.{first-passes, first-all, all-map, all-both, sum-zero}
 use Rattle.rules.proofs.Names.{same-self, same-true}
@@ -38,8 +38,8 @@ pub record BookingsSound (r next : ℕ) (bs : List Booking) : Type 0 where
   pub positive : All (λ b. 0 < b .amount) bs
 
 pub record SoundByName (L : Ledger) : Type 0 where
-  pub names-in-range : InRange 1 256 (L .T)
-  pub reservations-in-range : InRange 1 1024 (L .R)
+  pub names-in-range : InRange 1 mostNames (L .T)
+  pub reservations-in-range : InRange 1 mostReservations (L .R)
   pub places : PlacesSound (L .T) (L .places)
   pub bookings : BookingsSound (L .R) (L .nextId) (L .bookings)
   pub accounts : AccountsSound (L .places) (L .bookings)

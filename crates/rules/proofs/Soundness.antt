@@ -12,14 +12,14 @@ use lib.IntN.{ℤ, pos, negsuc, _-ℤ_}
 use lib.Signed.{ltZ}
 use lib.ListN.{length, length-append}
 use Rattle.rules.specs.Lists.{first, All}
-use Rattle.rules.specs.RoomAndSoundLedger.{M, Name, IsName, same, Account, Seat, seat, Place, Booking, Ledger, hasNothing, isVacant, isAt, seatOf, holdsPlace, seatIn, hasAccount, share, reservedFor, committedOf, committedTotal, Sound}
+use Rattle.rules.specs.RoomAndSoundLedger.{M, longestName, Name, IsName, same, Account, Seat, seat, Place, hasNothing, isVacant, Booking, Ledger, isAt, seatOf, holdsPlace, seatIn, hasAccount, share, reservedFor, committedOf, committedTotal, Sound}
 use Rattle.rules.specs.AnswerNumbers.{Refusal, MissingReservation, Outcome}
 use Rattle.rules.specs.AccountRules.{Move, refuse, tell, write, lose, book, Settlement, leave, end, ensureRule, topUpRule, limitRule, Checked, stopped, passed, reserveChecks, reserveRule, commitRule, commitOfNone, releaseRule, readRule, readReservedRule, put, freed, seated, hasRoom, booked, ended, perform, settle, AccountOperation, ensure, topUp, limit, reserve, commit, release, readRemaining, readInitial, readCommitted, readReserved, isTooLong, named, onName, onBooking, nextIdIsM, operate}
 use Rattle.rules.specs.Domain.{IsAmount, IsBytes, AccountOperationFits}
 use Rattle.rules.proofs.Tests.{by-test, by-bool, by-option}
 use Rattle.rules.proofs.Lists.{first-passes, first-all, all-map, all-keep, all-more, pairwise-keep, pairwise-more, length-keep, sum-more}
 use Rattle.rules.proofs.Names.{same-self, same-true, same-or-not}
-use Rattle.rules.proofs.Places.{seatIn-all, seatIn-seated, seatIn-seated-other, all-put, ascend-put, more, length-put, total-put, total-freed, account-holds}
+use Rattle.rules.proofs.Places.{seatIn-seated, seatIn-seated-other, seatIn-all, all-put, ascend-put, more, length-put, total-put, total-freed, account-holds}
 use Rattle.rules.proofs.Bookings.{Below, IdBelow, booked-id, sum-ended}
 use Rattle.rules.proofs.Delta.{delta-exceeds, remaining-falls}
 use Rattle.rules.proofs.SoundByName.{AccountSound, AccountsSound, PlacesSound, BookingsSound, SoundByName, by-name, by-place}
@@ -239,7 +239,7 @@ module _ (L : Ledger) (sound : SoundByName L) where
   -- 19 before any rule
   named-sound : (a : Name) → IsBytes a → (m : Move) → MoveSound (nextIdIsM L) (reservedFor a (L .bookings)) (seatIn a (L .places) .account) m → SoundByName (perform L a (named a m) .ledger)
   named-sound a bytes m h = by-test (λ (m : Move). SoundByName (perform L a m .ledger)) (isTooLong a) (λ _. unfold perform in sound)
-      (λ e. perform-sound a (record { fits = ltb-false 24 (length a) e; bytes = bytes }) m h)
+      (λ e. perform-sound a (record { fits = ltb-false longestName (length a) e; bytes = bytes }) m h)
 
   -- what an ended booking takes out of the sums
   taken-out : (a : Name) (b : Booking) → booked (b .id) (L .bookings) ≡ some b → reservedFor a (ended (b .id) (L .bookings)) + share a b ≡ reservedFor a (L .bookings)

@@ -11,7 +11,7 @@ use lib.ListN.{length}
 use Rattle.rules.specs.Lists.{first, keep, All, Pairwise}
 use Rattle.rules.specs.RoomAndSoundLedger.{Name, Seat, Booking, Ledger, Sound}
 use Rattle.rules.specs.AccountRules.{booked, ended}
-use Rattle.rules.specs.OrderBetweenAirlines.{Which, liveAtStart, grant, Reference, reference, Note, idOf, isNoteOf, isNoteFor, idNoted, referenceNoted, referenceOf, isGrantOf, grantsOf, Stage, noteAtStart, start}
+use Rattle.rules.specs.OrderBetweenAirlines.{Which, liveAtStart, grant, Reference, reference, Note, isNoteOf, idNoted, idOf, isNoteFor, referenceNoted, referenceOf, isGrantOf, grantsOf, Stage, noteAtStart, start}
 use Rattle.rules.proofs.Tests.{by-test, by-option, none-some}
 use Rattle.rules.proofs.Lists.{first-all, all-map, all-both, all-keep, all-more}
 use Rattle.rules.proofs.Names.{same-self}

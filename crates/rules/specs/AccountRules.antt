@@ -9,8 +9,8 @@ use lib.IntN.{ℤ, pos, negsuc, _-ℤ_}
 use lib.Signed.{ltZ}
 use lib.ListN.{length}
 use Rattle.rules.specs.Lists.{first, keep}
-use Rattle.rules.specs.RoomAndSoundLedger.{M, Name, order, Account, Seat, seat, Place, place, Booking, Ledger, withNextId, withPlaces, withBookings, isVacant, isAt, holdsPlace, seatIn, hasAccount, committedTotal}
-use Rattle.rules.specs.AnswerNumbers.{Amount, Identifier, Count, Version, Reply, Refusal, NegativeAmount, InvalidAmount, MissingTenant, OverflowOfReserve, OverflowOfCommit, OverflowOfTopUp, ExposureLimitExceeded, Insufficient, MissingReservation, Overrun, AggregateOverflow, NameTooLong, NamesFull, ReservationsFull, done, replyOf, Outcome, outcome, refused, UnsoundLedger, Lent, sound, unsound}
+use Rattle.rules.specs.RoomAndSoundLedger.{M, longestName, Name, order, Account, Seat, seat, Place, place, isVacant, Booking, Ledger, withNextId, withPlaces, withBookings, isAt, holdsPlace, seatIn, hasAccount, committedTotal}
+use Rattle.rules.specs.AnswerNumbers.{Amount, Identifier, Version, Count, Reply, done, Refusal, NegativeAmount, InvalidAmount, MissingTenant, OverflowOfReserve, OverflowOfCommit, OverflowOfTopUp, ExposureLimitExceeded, Insufficient, MissingReservation, Overrun, AggregateOverflow, NameTooLong, NamesFull, ReservationsFull, UnsoundLedger, replyOf, Outcome, outcome, refused, Lent, sound, unsound}
 
 -- What a rule decides. `tell`: done, with these amounts, and nothing changes. `write`: done, and the seat is now this one.
 -- `lose`: refused, but an id is drawn. `book`: the id drawn is granted for this cost; carries remaining and the id
@@ -183,7 +183,7 @@ pub data AccountOperation (X : Type 0) : Type 0 where
 
 -- 19 for a name of more than 24 bytes, before the source's order
 abbrev pub isTooLong : Name → Bool
-isTooLong a = ltb 24 (length a)
+isTooLong a = ltb longestName (length a)
 
 abbrev pub named : Name → Move → Move
 named a m = cond (isTooLong a) (refuse NameTooLong) m

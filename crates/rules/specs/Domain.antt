@@ -8,7 +8,7 @@ use lib.ListN.{length}
 use Rattle.rules.specs.Lists.{All}
 use Rattle.rules.specs.RoomAndSoundLedger.{Name, IsByte}
 use Rattle.rules.specs.AccountRules.{AccountOperation, ensure, topUp, limit, reserve, commit, release, readRemaining, readInitial, readCommitted, readReserved}
-use Rattle.rules.specs.SnapshotsMigrationCertificates.{Row, Snapshot, fits64}
+use Rattle.rules.specs.SnapshotsMigrationCertificates.{Row, Snapshot, mostRows, fits64}
 use Rattle.rules.specs.Frames.{Operation, onAccount, takeSnapshot, certifyLedger, proveConservation, restoreFrom, recoverFrom, judge, migrateTo, certify}
 
 abbrev pub IsAmount : ℤ → Type 0
@@ -35,7 +35,7 @@ AccountOperationFits (readReserved a) = IsBytes a
 -- a snapshot that bytes can hold
 pub record RowFits (r : Row) : Type 0 where
   pub bytes : IsBytes (r .name)
-  pub size : length (r .name) < 256
+  pub size : IsByte (length (r .name))
   pub initial : IsAmount (r .initial)
   pub remaining : IsAmount (r .remaining)
   pub reserved : IsAmount (r .reserved)
@@ -44,7 +44,7 @@ pub record RowFits (r : Row) : Type 0 where
 pub record SnapshotFits (s : Snapshot) : Type 0 where
   pub version : IsWord (s .version)
   pub active : IsWord (s .active)
-  pub count : length (s .rows) ≤ 256
+  pub count : length (s .rows) ≤ mostRows
   pub rows : All RowFits (s .rows)
 
 abbrev pub OperationFits : Operation → Type 0

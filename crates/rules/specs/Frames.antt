@@ -7,10 +7,10 @@ use lib.Dec.{leb, ltb, eqb}
 use lib.IntN.{ℤ}
 use lib.ListN.{length}
 use Rattle.rules.specs.Lists.{first}
-use Rattle.rules.specs.RoomAndSoundLedger.{Name, fresh}
+use Rattle.rules.specs.RoomAndSoundLedger.{longestName, mostNames, mostReservations, Name, fresh}
 use Rattle.rules.specs.AnswerNumbers.{Value, Amount, Identifier, Version, Fence, Count, Field, YesOrNo, TheName, SnapshotBytes, Reply, BadFrame, replyOf, Lent, sound, Answered, answered, onLent}
 use Rattle.rules.specs.AccountRules.{AccountOperation, ensure, topUp, limit, reserve, commit, release, operate}
-use Rattle.rules.specs.SnapshotsMigrationCertificates.{Snapshot, bytesOf, amountBytes, nameBytes, Reader, reads, _>>=_, readNumber, readAmount, readName, readSnapshot, whole, snapshot, restore, recoveryRestore, migrate, status, certificateOfSnapshot, certificateOfLedger, conservationProof}
+use Rattle.rules.specs.SnapshotsMigrationCertificates.{Snapshot, mostRows, bytesOf, amountBytes, nameBytes, Reader, reads, _>>=_, readNumber, readAmount, readName, readSnapshot, whole, snapshot, restore, recoveryRestore, migrate, status, certificateOfSnapshot, certificateOfLedger, conservationProof}
 
 -- ── a line of digits to bytes ──────────────────────────────────────────────────────────────────
 
@@ -104,9 +104,9 @@ operationOf bs = whole (readOperation bs)
 
 -- ── an operation to its answer ─────────────────────────────────────────────────────────────────
 
--- the longest snapshot: 256 rows with names of 24 bytes. An answer line has room for it, so that no frame meets 22
-unfoldable pub longestSnapshot : ℕ
-longestSnapshot = 18 + 256 * (1 + 24 + 32)
+-- the bytes of the longest snapshot: its head, and as many rows of the longest name as there can be. An answer line has room for it, so that no frame meets 22
+abbrev pub longestSnapshot : ℕ
+longestSnapshot = 8 + 8 + 2 + mostRows * (1 + longestName + 4 * 8)
 
 -- "Order everywhere: 23, 24, 19, then the source's order"; "migration and judging a supplied snapshot take none"
 unfoldable pub answer : Lent → Operation → Answered
@@ -158,9 +158,16 @@ abbrev pub operationOfBytes : Option (List ℕ) → Option Operation
 operationOfBytes none = none
 operationOfBytes (some bs) = operationOf bs
 
+-- The longest frames are a migration and a certificate of the longest snapshot: the operation's byte, a number of eight, the snapshot
+abbrev pub longestFrame : ℕ
+longestFrame = 1 + 8 + longestSnapshot
+
+abbrev pub longestLine : ℕ
+longestLine = longestFrame + longestFrame
+
 -- "A line is at most 29,238 characters; a longer one gets one 23."
 unfoldable pub operationOfLine : List ℕ → Option Operation
-operationOfLine line = cond (ltb 29238 (length line)) none (operationOfBytes (bytesOfLine line))
+operationOfLine line = cond (ltb longestLine (length line)) none (operationOfBytes (bytesOfLine line))
 
 abbrev pub answerOr23 : Lent → Option Operation → Answered
 answerOr23 l none = answered (replyOf BadFrame) l
@@ -200,6 +207,6 @@ answersToLines l (line ∷ lines) = let a : Answered = answerToLine l line in an
 
 -- "A house program (T 256, R 1,024, from a fresh ledger) reads lines .., one frame a line"
 unfoldable pub house : (input : List ℕ) → List ℕ
-house input = answersToLines (sound (fresh 256 1024)) (linesOf input)
+house input = answersToLines (sound (fresh mostNames mostReservations)) (linesOf input)
 
 -- "Whole case, input: .. Output: ..": specs/MarkedCases.antt, `wholeCaseInput` and `wholeCaseOutput`

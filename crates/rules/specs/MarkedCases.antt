@@ -4,9 +4,9 @@ use Prim.Native.Nat.{ℕ, _+_, _-_, _^_}
 use Prim.Native.Char.{code}
 use Prim.Native.String.{String, [] as []ᵗ, _∷_ as _∷ᵗ_}
 use lib.IntN.{pos}
-use Rattle.rules.specs.RoomAndSoundLedger.{M, Name, fresh}
-use Rattle.rules.specs.AnswerNumbers.{Amount, Identifier, Reply, Insufficient, MissingTenant, ExposureLimitExceeded, OverflowOfReserve, OverflowOfCommit, OverflowOfTopUp, Overrun, NegativeLedgerField, AllocatorExhausted, Lent, sound, unsound, Answered, answered, done, replyOf}
-use Rattle.rules.specs.AccountRules.{AccountOperation, ensure, topUp, limit, reserve, commit, doneWith}
+use Rattle.rules.specs.RoomAndSoundLedger.{M, mostNames, mostReservations, Name, fresh}
+use Rattle.rules.specs.AnswerNumbers.{Amount, Identifier, Reply, done, MissingTenant, OverflowOfReserve, OverflowOfCommit, OverflowOfTopUp, ExposureLimitExceeded, Insufficient, Overrun, AllocatorExhausted, NegativeLedgerField, replyOf, Lent, sound, unsound, Answered, answered}
+use Rattle.rules.specs.AccountRules.{doneWith, AccountOperation, ensure, topUp, limit, reserve, commit}
 use Rattle.rules.specs.SnapshotsMigrationCertificates.{Snapshot, tagged}
 use Rattle.rules.specs.Frames.{Operation, onAccount, takeSnapshot, restoreFrom, answer}
 
@@ -27,7 +27,7 @@ pub record Case : Type 0 where
   pub nextId : ℕ
 
 abbrev pub case : List Operation → Reply → ℕ → Case
-case xs r n = record { T = 256; R = 1024; operations = xs; answer = r; nextId = n }
+case xs r n = record { T = mostNames; R = mostReservations; operations = xs; answer = r; nextId = n }
 
 -- after an account Q1 with 100
 abbrev pub with100 : List (AccountOperation ℕ) → List Operation

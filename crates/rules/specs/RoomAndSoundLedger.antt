@@ -13,6 +13,16 @@ use Rattle.rules.specs.Lists.{first, any, sum, All, Pairwise}
 unfoldable pub M : ℕ
 M = 2 ^ 63 - 1
 
+-- the bytes of a name, the names and the reservations of a ledger, at most
+abbrev pub longestName : ℕ
+longestName = 24
+
+abbrev pub mostNames : ℕ
+mostNames = 256
+
+abbrev pub mostReservations : ℕ
+mostReservations = 1024
+
 -- ── names ──────────────────────────────────────────────────────────────────────────────────────
 
 -- "A name is a length and 24 bytes": here the bytes within the length
@@ -23,7 +33,7 @@ abbrev pub IsByte : ℕ → Type 0
 IsByte b = b < 256
 
 pub record IsName (a : Name) : Type 0 where
-  pub fits : length a ≤ 24
+  pub fits : length a ≤ longestName
   pub bytes : All IsByte a
 
 -- "Names are ordered by bytes, a prefix first."
@@ -169,8 +179,8 @@ fenceOf v = v % 2 ^ 63
 -- decoded; of the ledger it says that no more is in use than was lent.
 pub record Sound (L : Ledger) : Type 0 where
   -- "T and R are in range"
-  pub names-in-range : InRange 1 256 (L .T)
-  pub reservations-in-range : InRange 1 1024 (L .R)
+  pub names-in-range : InRange 1 mostNames (L .T)
+  pub reservations-in-range : InRange 1 mostReservations (L .R)
   pub names-fit : length (L .places) ≤ L .T
   pub reservations-fit : length (L .bookings) ≤ L .R
   -- "A name is a length and 24 bytes"; "names ascend strictly"
@@ -207,4 +217,4 @@ isInRange low high n = leb low n && leb n high
 
 -- "making one overwrites the room, or gives 24 exactly when T or R is out of range": none stands for 24
 unfoldable pub made : ℕ → ℕ → Option Ledger
-made t r = cond (isInRange 1 256 t && isInRange 1 1024 r) (some (fresh t r)) none
+made t r = cond (isInRange 1 mostNames t && isInRange 1 mostReservations r) (some (fresh t r)) none

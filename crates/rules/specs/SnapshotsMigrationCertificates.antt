@@ -9,7 +9,7 @@ use lib.Signed.{ltZ}
 use lib.ListN.{length, take, drop}
 use Rattle.rules.specs.Lists.{any}
 use Rattle.rules.specs.RoomAndSoundLedger.{M, Name, same, Account, Seat, seat, Place, Ledger, withNextId, withLastVersion, withBaseline, withPlaces, withBookings, committedTotal, hasTag, fenceOf}
-use Rattle.rules.specs.AnswerNumbers.{remainingField, initialField, committedField, versionField, Amount, Version, Count, YesOrNo, SnapshotBytes, Reply, Refusal, AllocatorExhausted, ActiveReservations, DuplicateTenant, GhostReservation, NegativeLedgerField, ConservationViolation, AggregateOverflow, AlreadyRecoveryAware, InvalidAllocatorFence, LegacySnapshotRequiresMigration, NameTooLong, NamesFull, OutputTooShort, done, replyOf, Outcome, outcome, refused, BadFrame, Lent, Answered, answered}
+use Rattle.rules.specs.AnswerNumbers.{Amount, Version, Count, YesOrNo, SnapshotBytes, Reply, done, remainingField, initialField, committedField, versionField, Refusal, AllocatorExhausted, ActiveReservations, DuplicateTenant, GhostReservation, NegativeLedgerField, ConservationViolation, AggregateOverflow, AlreadyRecoveryAware, InvalidAllocatorFence, LegacySnapshotRequiresMigration, NameTooLong, NamesFull, OutputTooShort, BadFrame, replyOf, Outcome, outcome, refused, Lent, Answered, answered}
 use Rattle.rules.specs.AccountRules.{account, natural, put, drawn, isTooLong}
 
 -- ── snapshot bytes ─────────────────────────────────────────────────────────────────────────────
@@ -25,6 +25,10 @@ pub record Snapshot : Type 0 where
   pub version : ℕ
   pub active : ℕ
   pub rows : List Row
+
+-- the rows of a snapshot, at most
+abbrev pub mostRows : ℕ
+mostRows = 256
 
 -- "All numbers big-endian": a number in so many bytes, and back
 unfoldable pub bytesOf : (size : ℕ) → ℕ → List ℕ
@@ -115,13 +119,13 @@ readRows (suc count) = do
   reads (r ∷ rs)
 
 -- "row count (2, at most 256)"
-abbrev pub atMost256 : ℕ → Reader ℕ
-atMost256 count bs = cond (ltb 256 count) none (reads count bs)
+abbrev pub unlessTooMany : ℕ → Reader ℕ
+unlessTooMany count bs = cond (ltb mostRows count) none (reads count bs)
 
 unfoldable pub readCount : Reader ℕ
 readCount = do
   count ← readNumber 2
-  atMost256 count
+  unlessTooMany count
 
 unfoldable pub readSnapshot : Reader Snapshot
 readSnapshot = do

@@ -7,7 +7,7 @@ use native.Mathlib.Omega.{arith}
 use borrow.Author.Tests.{ltb-true, ltb-false, lt-ltb, le-ltb, eqb-true}
 use lib.Dec.{ltb, eqb}
 use lib.ListN.{length, take, drop, drop-of-length-le}
-use Rattle.rules.specs.SnapshotsMigrationCertificates.{Row, Snapshot, Reading, Reader, reads, goOn, whole, numberOf, atMost256, readRow, readRows, readCount, readSnapshot, snapshotOfBytes}
+use Rattle.rules.specs.SnapshotsMigrationCertificates.{Row, Snapshot, Reading, Reader, reads, goOn, whole, numberOf, unlessTooMany, readRow, readRows, readCount, readSnapshot, snapshotOfBytes}
 use Rattle.rules.proofs.Tests.{by-bool, by-test, none-some}
 use Rattle.rules.proofs.Reading.{after}
 use Rattle.snapshot_reader.specs.Standing.{IsSnapshot, RowsFrom}
@@ -28,11 +28,11 @@ rowsAfter bs = readRows (countIn bs) (drop 18 bs)
 module _ (bs : List ℕ) where
   count-read : 18 ≤ length bs → countIn bs ≤ 256 → readCount (drop 16 bs) ≡ some (after (countIn bs) (drop 18 bs))
   unfolding readCount
-  count-read h few = goes-on atMost256 (number-takes bs 16 18 2 refl) h ∙ rw (le-ltb 256 (countIn bs) few)
+  count-read h few = goes-on unlessTooMany (number-takes bs 16 18 2 refl) h ∙ rw (le-ltb 256 (countIn bs) few)
 
   count-refused : 16 ≤ length bs → (18 ≤ length bs → 256 < countIn bs) → readCount (drop 16 bs) ≡ none
   unfolding readCount
-  count-refused k many = gives-none atMost256 (number-takes bs 16 18 2 refl) k (λ h. rw (lt-ltb 256 (countIn bs) (many h)))
+  count-refused k many = gives-none unlessTooMany (number-takes bs 16 18 2 refl) k (λ h. rw (lt-ltb 256 (countIn bs) (many h)))
 
   pub head-read : 18 ≤ length bs → countIn bs ≤ 256 → readSnapshot bs ≡ goOn (rowsAfter bs) (λ rs. reads (withRows bs rs))
   unfolding readSnapshot
