@@ -1,3 +1,16 @@
-// The rules of document 01. This crate holds no code: specs/ writes the paper down, a file for each of its sections, and proofs/
-// holds the theorems about those definitions.
-pub fn nothing() {}
+// The rules of document 01. specs/ writes the paper down, a file for each of its sections, and proofs/ holds the theorems about those definitions.
+// Of code there is only what the paper fixes as a number: the crates above take it from here.
+
+// The greatest amount and the greatest id.
+pub const M: u64 = 9223372036854775807;
+
+// The bytes of a name, the names and the reservations of a ledger, at most.
+pub const LONGEST_NAME: usize = 24;
+pub const MOST_NAMES: usize = 256;
+pub const MOST_RESERVATIONS: usize = 1024;
+
+// A snapshot's bytes: version, active count and row count; then rows, each a name with its length in front, and four amounts.
+pub const SNAPSHOT_HEADER: usize = 8 + 8 + 2;
+pub const ROW_AMOUNTS: usize = 4 * 8;
+pub const LONGEST_ROW: usize = 1 + LONGEST_NAME + ROW_AMOUNTS;
+pub const LONGEST_SNAPSHOT: usize = SNAPSHOT_HEADER + MOST_NAMES * LONGEST_ROW;
