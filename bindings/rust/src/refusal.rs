@@ -24,7 +24,7 @@ pub enum Refusal {
     /// Field 1 is remaining, 2 initial, 3 committed, 4 the version.
     NegativeLedgerField { name: Name, field: u8, value: Microcents },
     ConservationViolation { name: Name, delta: Microcents },
-    /// From a conservation proof, next id and last version have moved.
+    /// In answer to a conservation proof an id was drawn and the last version moved.
     AggregateOverflow,
     AlreadyRecoveryAware,
     InvalidAllocatorFence { fence: u64 },
