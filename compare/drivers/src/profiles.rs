@@ -27,7 +27,7 @@ const ENDS: [i64; 14] =
 /// Fewer than R = 1,024, so that the room is never full.
 const MOST_LIVE: usize = 1_000;
 
-/// What the frames so far came to, as the Rust's answers tell it.
+/// What the frames sent before came to, as the Rust's answers tell it.
 pub struct Shift {
     pub chance: Chance,
     airlines: Vec<Vec<u8>>,
