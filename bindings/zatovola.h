@@ -24,7 +24,7 @@ uint64_t zatovola_room_size(uint64_t names, uint64_t reservations);
 /* A fresh ledger in the whole room: 0 (done); or 24 (UnsoundLedger) and nothing changed, where a number is out of range or the room is of another size. */
 uint8_t zatovola_make(uint8_t *room, size_t room_length, uint64_t names, uint64_t reservations);
 
-/* A frame's bytes to its answer's bytes: the answer number, then what it carries (document 01, 'Frames'). Any bytes may be lent as the room: what is no sound
+/* A frame's bytes to its answer's bytes: the answer number, then what it carries (docs/FRAMES.md). Any bytes may be lent as the room: what is no sound
  * ledger gets answer 24 and is not changed. The result is how many bytes were written; 0, and nothing changed, where the output is shorter than the
  * longest answer to this frame. */
 size_t zatovola_answer(uint8_t *room, size_t room_length, const uint8_t *frame, size_t frame_length, uint8_t *output, size_t output_length);
