@@ -1,6 +1,6 @@
 -- Each answer of each rule, from plain facts: what the tests of the code leave.
 use mathlib.Core.Path.{_≡_, refl, sym, _∙_, ap, subst}
-use mathlib.Core.Bool.{Bool, true, false, _&&_}
+use mathlib.Core.Bool.{Bool, true, false, cond, _&&_}
 use mathlib.Core.List.{[], _∷_}
 use mathlib.Core.Option.{Option, none, some}
 use Prim.Native.Nat.{ℕ, zero, suc, _+_, _-_, _^_, _≤_, _<_}
@@ -10,8 +10,8 @@ use lib.Dec.{ltb, eqb}
 use lib.IntN.{ℤ, pos, negsuc, _-ℤ_}
 use lib.Signed.{ltZ, mag}
 use Rattle.rules.specs.RoomAndSoundLedger.{M, Account, seat, AddsUp}
-use Rattle.rules.specs.AnswerNumbers.{Refusal, NegativeAmount, InvalidAmount, MissingTenant, OverflowOfReserve, OverflowOfCommit, OverflowOfTopUp, ExposureLimitExceeded, Insufficient, Overrun}
-use Rattle.rules.specs.AccountRules.{refuse, tell, write, lose, book, leave, end, account, natural, ensureRule, topUpRule, limitRule, Checked, stopped, passed, reserveChecks, reserveRule, commitRule, releaseRule}
+use Rattle.rules.specs.AnswerNumbers.{NegativeAmount, InvalidAmount, MissingTenant, OverflowOfReserve, OverflowOfCommit, OverflowOfTopUp, ExposureLimitExceeded, Insufficient, Overrun}
+use Rattle.rules.specs.AccountRules.{refuse, tell, write, lose, book, leave, end, account, natural, ensureRule, topUpRule, limitRule, reserveRule, commitRule, releaseRule}
 use Rattle.rules.proofs.Delta.{delta-exceeds, remaining-falls}
 use Rattle.moves.specs.declared.Seat.{Seat}
 use Rattle.moves.specs.Moves.{accountOf, kept, keptSeat, SeatSound}
@@ -125,84 +125,86 @@ module _ (z : ℤ) (c : Option Account) (l : ℕ) where
 
 -- ── reserve ────────────────────────────────────────────────────────────────────────────────────
 
-pub checks-negative : (z : ℤ) (c : Option Account) (l : ℕ) → z ≡ negsuc (mag z) → reserveChecks z c l ≡ stopped (Insufficient 0 z)
-unfolding reserveChecks
-checks-negative z c l e = rw e
-
-pub checks-zero : (z : ℤ) (c : Option Account) (l n : ℕ) → z ≡ pos n → n ≡ 0 → reserveChecks z c l ≡ stopped (Insufficient 0 z)
-unfolding reserveChecks
-checks-zero z c l n amount e = rw (amount, e)
-
-module _ (s : Seat) (z : ℤ) where
-  pub checks-missing : (n : ℕ) → z ≡ pos n → (n ≡ 0 → ⊥) → s .account ≡ 0 → reserveChecks z (accountOf s) (s .limit) ≡ stopped MissingTenant
-  unfolding reserveChecks
-  checks-missing zero amount positive h = absurd (positive refl)
-  checks-missing (suc n) amount positive h = rw (amount, without-account s h)
-
-  pub checks-overflows : (n : ℕ) → Asked s z n → M < s .reserved + n → reserveChecks z (accountOf s) (s .limit) ≡ stopped (OverflowOfReserve (s .reserved))
-  unfolding reserveChecks
-  checks-overflows zero asked above = absurd (asked .positive refl)
-  checks-overflows (suc n) asked above = rw (asked .amount, with-account s (asked .present), lt-ltb M (s .reserved + suc n) above)
-
-  pub checks-exposed : (n : ℕ) → Asked s z n → (reserved : ℕ) → reserved ≡ s .reserved + n → s .reserved + n ≤ M → (ltb 0 (s .limit) && ltb (s .limit) reserved) ≡ true
-      → reserveChecks z (accountOf s) (s .limit) ≡ stopped (ExposureLimitExceeded (s .reserved) (s .limit))
-  unfolding reserveChecks
-  checks-exposed zero asked reserved e fits exceeds = absurd (asked .positive refl)
-  checks-exposed (suc n) asked reserved e fits exceeds = rw (asked .amount, with-account s (asked .present), le-ltb M (s .reserved + suc n) fits, ← e, exceeds)
-
-  pub checks-pass : (n : ℕ) → Asked s z n → (reserved : ℕ) → reserved ≡ s .reserved + n → s .reserved + n ≤ M → (ltb 0 (s .limit) && ltb (s .limit) reserved) ≡ false
-      → reserveChecks z (accountOf s) (s .limit) ≡ passed (accountIn s) n
-  unfolding reserveChecks
-  checks-pass zero asked reserved e fits within = absurd (asked .positive refl)
-  checks-pass (suc n) asked reserved e fits within = rw (asked .amount, with-account s (asked .present), le-ltb M (s .reserved + suc n) fits, ← e, within)
-
 -- M as the code writes it
 abbrev pub codeM : ℕ
 codeM = 9223372036854775807
 
--- the checks stop a reserve, or pass it on to the one of the next id
-module _ (k : Checked) (l : ℕ) where
-  pub reserve-stops : (nextIdIsM : Bool) (e : Refusal) → k ≡ stopped e → refuse e ≡ reserveRule nextIdIsM l k
+-- a reserve that passes the checks before the one of the next id, and what reserved would be
+pub record Passes (s : Seat) (z : ℤ) (n reserved : ℕ) : Type 0 where
+  pub asked : Asked s z n
+  pub sum : reserved ≡ s .reserved + n
+  pub fits : s .reserved + n ≤ M
+  pub within : (ltb 0 (s .limit) && ltb (s .limit) reserved) ≡ false
+
+module _ (last : Bool) where
+  pub reserve-negative : (z : ℤ) (c : Option Account) (l : ℕ) → z ≡ negsuc (mag z) → refuse (Insufficient 0 z) ≡ reserveRule z last c l
   unfolding reserveRule
-  reserve-stops nextIdIsM e stops = rw stops
+  reserve-negative z c l e = rw e
 
-  module _ (c : Account) (n next : ℕ) where
-    pub reserve-ids-used : next ≡ codeM → k ≡ passed c n → refuse (OverflowOfReserve (c .reserved)) ≡ reserveRule (eqb next M) l k
-    unfolding reserveRule
-    reserve-ids-used h passes = rw (passes, eq-eqb next M (unfold M in h))
+  pub reserve-zero : (z : ℤ) (c : Option Account) (l n : ℕ) → z ≡ pos n → n ≡ 0 → refuse (Insufficient 0 z) ≡ reserveRule z last c l
+  unfolding reserveRule
+  reserve-zero z c l n amount e = rw (amount, e)
 
-    pub reserve-insufficient : (next ≡ codeM → ⊥) → c .remaining < n → k ≡ passed c n → lose (Insufficient (c .remaining) (pos n)) ≡ reserveRule (eqb next M) l k
+  module _ (s : Seat) (z : ℤ) where
+    pub reserve-missing : (n : ℕ) → z ≡ pos n → (n ≡ 0 → ⊥) → s .account ≡ 0 → refuse MissingTenant ≡ reserveRule z last (accountOf s) (s .limit)
     unfolding reserveRule
-    reserve-insufficient h short passes = rw (passes, ne-eqb next M (unfold M in h), lt-ltb (c .remaining) n short)
+    reserve-missing zero amount positive h = absurd (positive refl)
+    reserve-missing (suc n) amount positive h = rw (amount, without-account s h)
 
-    pub reserve-books : (next ≡ codeM → ⊥) → n ≤ c .remaining → k ≡ passed c n → (reserved : ℕ) → reserved ≡ c .reserved + n
-        → book (c .remaining - n) (seat (account (c .initial) (c .remaining - n) reserved (c .committed)) l) n ≡ reserveRule (eqb next M) l k
+    pub reserve-overflows : (n : ℕ) → Asked s z n → M < s .reserved + n → refuse (OverflowOfReserve (s .reserved)) ≡ reserveRule z last (accountOf s) (s .limit)
     unfolding reserveRule
-    reserve-books h enough passes reserved e = rw (passes, ne-eqb next M (unfold M in h), le-ltb (c .remaining) n enough, e)
+    reserve-overflows zero asked above = absurd (asked .positive refl)
+    reserve-overflows (suc n) asked above = rw (asked .amount, with-account s (asked .present), lt-ltb M (s .reserved + suc n) above)
+
+    pub reserve-exposed : (n : ℕ) → Asked s z n → (reserved : ℕ) → reserved ≡ s .reserved + n → s .reserved + n ≤ M → (ltb 0 (s .limit) && ltb (s .limit) reserved) ≡ true
+        → refuse (ExposureLimitExceeded (s .reserved) (s .limit)) ≡ reserveRule z last (accountOf s) (s .limit)
+    unfolding reserveRule
+    reserve-exposed zero asked reserved e fits exceeds = absurd (asked .positive refl)
+    reserve-exposed (suc n) asked reserved e fits exceeds = rw (asked .amount, with-account s (asked .present), le-ltb M (s .reserved + suc n) fits, ← e, exceeds)
+
+    -- what the rule comes to after those checks
+    reserve-passes : (n reserved : ℕ) → Passes s z n reserved
+        → reserveRule z last (accountOf s) (s .limit)
+        ≡ cond last (refuse (OverflowOfReserve (s .reserved)))
+        (cond (ltb (s .remaining) n) (lose (Insufficient (s .remaining) (pos n))) (book (s .remaining - n) (seat (account (s .initial) (s .remaining - n) reserved (s .committed)) (s .limit)) n))
+    unfolding reserveRule
+    reserve-passes zero reserved p = absurd (p .asked .positive refl)
+    reserve-passes (suc n) reserved p = rw (p .asked .amount, with-account s (p .asked .present), le-ltb M (s .reserved + suc n) (p .fits), ← p .sum, p .within)
+
+module _ (s : Seat) (z : ℤ) (n reserved next : ℕ) (passes : Passes s z n reserved) where
+  pub reserve-ids-used : next ≡ codeM → refuse (OverflowOfReserve (s .reserved)) ≡ reserveRule z (eqb next M) (accountOf s) (s .limit)
+  reserve-ids-used h = rw (reserve-passes (eqb next M) s z n reserved passes, eq-eqb next M (unfold M in h))
+
+  pub reserve-insufficient : (next ≡ codeM → ⊥) → s .remaining < n → lose (Insufficient (s .remaining) (pos n)) ≡ reserveRule z (eqb next M) (accountOf s) (s .limit)
+  reserve-insufficient h short = rw (reserve-passes (eqb next M) s z n reserved passes, ne-eqb next M (unfold M in h), lt-ltb (s .remaining) n short)
+
+  pub reserve-books : (next ≡ codeM → ⊥) → n ≤ s .remaining
+      → book (s .remaining - n) (seat (account (s .initial) (s .remaining - n) reserved (s .committed)) (s .limit)) n ≡ reserveRule z (eqb next M) (accountOf s) (s .limit)
+  reserve-books h enough = rw (reserve-passes (eqb next M) s z n reserved passes, ne-eqb next M (unfold M in h), le-ltb (s .remaining) n enough)
 
 -- ── commit ─────────────────────────────────────────────────────────────────────────────────────
 
-pub commit-negative : (z : ℤ) (booked : ℕ) (c : Option Account) (l : ℕ) → z ≡ negsuc (mag z) → leave InvalidAmount ≡ commitRule z booked c l
+pub commit-negative : (z : ℤ) (booked : ℕ) (c : Option Account) (l : ℕ) → z ≡ negsuc (mag z) → leave InvalidAmount ≡ commitRule z (some booked) c l
 unfolding commitRule
 commit-negative z booked c l e = rw e
 
 module _ (s : Seat) (booked : ℕ) (z : ℤ) (n : ℕ) (amount : z ≡ pos n) where
-  pub commit-missing : s .account ≡ 0 → leave MissingTenant ≡ commitRule z booked (accountOf s) (s .limit)
+  pub commit-missing : s .account ≡ 0 → leave MissingTenant ≡ commitRule z (some booked) (accountOf s) (s .limit)
   unfolding commitRule
   commit-missing h = rw (amount, without-account s h)
 
   module _ (present : s .account ≡ 0 → ⊥) where
-    pub commit-overflows : M < s .committed + n → leave (OverflowOfCommit (s .remaining)) ≡ commitRule z booked (accountOf s) (s .limit)
+    pub commit-overflows : M < s .committed + n → leave (OverflowOfCommit (s .remaining)) ≡ commitRule z (some booked) (accountOf s) (s .limit)
     unfolding commitRule
     commit-overflows above = rw (amount, with-account s present, lt-ltb M (s .committed + n) above)
 
     module _ (fits : s .committed + n ≤ M) where
-      pub commit-overruns : ltZ (pos (s .remaining)) (pos n -ℤ pos booked) ≡ true → leave (Overrun (s .remaining)) ≡ commitRule z booked (accountOf s) (s .limit)
+      pub commit-overruns : ltZ (pos (s .remaining)) (pos n -ℤ pos booked) ≡ true → leave (Overrun (s .remaining)) ≡ commitRule z (some booked) (accountOf s) (s .limit)
       unfolding commitRule
       commit-overruns exceeds = rw (amount, with-account s present, le-ltb M (s .committed + n) fits, exceeds)
 
       pub commit-ends : (remaining committed : ℕ) → ltZ (pos (s .remaining)) (pos n -ℤ pos booked) ≡ false → remaining ≡ natural (pos (s .remaining) -ℤ (pos n -ℤ pos booked)) → committed ≡ s .committed + n
-          → end (pos remaining ∷ z ∷ []) (seat (account (s .initial) remaining (s .reserved - booked) committed) (s .limit)) ≡ commitRule z booked (accountOf s) (s .limit)
+          → end (pos remaining ∷ z ∷ []) (seat (account (s .initial) remaining (s .reserved - booked) committed) (s .limit)) ≡ commitRule z (some booked) (accountOf s) (s .limit)
       unfolding commitRule
       commit-ends remaining committed within e f = rw (amount, with-account s present, le-ltb M (s .committed + n) fits, within, e, f)
 
@@ -215,11 +217,11 @@ commit-leaves remaining booked n within =
 -- ── release ────────────────────────────────────────────────────────────────────────────────────
 
 module _ (s : Seat) (booked : ℕ) where
-  pub release-missing : s .account ≡ 0 → leave MissingTenant ≡ releaseRule booked (accountOf s) (s .limit)
+  pub release-missing : s .account ≡ 0 → leave MissingTenant ≡ releaseRule (some booked) (accountOf s) (s .limit)
   unfolding releaseRule
   release-missing h = rw (without-account s h)
 
   pub release-returns : (s .account ≡ 0 → ⊥)
-      → end (pos (s .remaining + booked) ∷ pos booked ∷ []) (seat (account (s .initial) (s .remaining + booked) (s .reserved - booked) (s .committed)) (s .limit)) ≡ releaseRule booked (accountOf s) (s .limit)
+      → end (pos (s .remaining + booked) ∷ pos booked ∷ []) (seat (account (s .initial) (s .remaining + booked) (s .reserved - booked) (s .committed)) (s .limit)) ≡ releaseRule (some booked) (accountOf s) (s .limit)
   unfolding releaseRule
   release-returns h = rw (with-account s h)

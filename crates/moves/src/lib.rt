@@ -5,10 +5,11 @@ use numbers::Sign;
 use numbers::Sum;
 ghost use mathlib.Core.Path.{_≡_};
 ghost use mathlib.Core.Bool.{_&&_};
+ghost use mathlib.Core.Option.{some};
 ghost use Prim.Native.Nat.{_≤_, _<_};
 ghost use lib.Dec.{ltb, eqb};
 ghost use Rattle.rules.specs.RoomAndSoundLedger.{M};
-ghost use Rattle.rules.specs.AccountRules.{ensureRule, topUpRule, limitRule, reserveChecks, reserveRule, commitRule, releaseRule};
+ghost use Rattle.rules.specs.AccountRules.{ensureRule, topUpRule, limitRule, reserveRule, commitRule, releaseRule};
 ghost use Rattle.moves.specs.Moves.{SeatSound, accountOf, ensuringMove, toppingUpMove, limitingMove, reservingMove, committingSettlement, releasingSettlement, EnsuringSound, ToppingUpSound, LimitingSound, ReservingSound, CommittingSound, ReleasingSound};
 
 // What a place keeps of a name beside the name: account is 1 with an account and 0 without one, and a limit of 0 is none.
@@ -141,7 +142,7 @@ fn exceeds(limit: u64, reserved: u64) -> bool
 // equal to M gives 4; remaining below cost gives 6, id drawn"
 pub fn reserve(seat: Seat, cost: Microcents, next_id: u64) -> Reserving
     requires { ⌜ SeatSound seat ⌝ }
-    ensures { λ r. ⌜ (reservingMove (cost .0) r ≡ reserveRule (eqb «next_id» M) (seat .limit) (reserveChecks (cost .0) (accountOf seat) (seat .limit))) × ReservingSound r ⌝ }
+    ensures { λ r. ⌜ (reservingMove (cost .0) r ≡ reserveRule (cost .0) (eqb «next_id» M) (accountOf seat) (seat .limit)) × ReservingSound r ⌝ }
 {
     let Sign::Natural(asked) = numbers::sign_of(cost) else {
         return Reserving::NotPositive;
@@ -180,7 +181,7 @@ pub fn reserve(seat: Seat, cost: Microcents, next_id: u64) -> Reserving
 // "Commit: actual below 0 gives 2; .. committed plus actual above M gives 4; delta = actual - reserved amount; delta above remaining gives 8"
 pub fn commit(seat: Seat, booked: u64, actual: Microcents) -> Committing
     requires { ⌜ SeatSound seat × (booked ≤ seat .reserved) ⌝ }
-    ensures { λ r. ⌜ (committingSettlement (actual .0) r ≡ commitRule (actual .0) booked (accountOf seat) (seat .limit)) × CommittingSound r ⌝ }
+    ensures { λ r. ⌜ (committingSettlement (actual .0) r ≡ commitRule (actual .0) (some booked) (accountOf seat) (seat .limit)) × CommittingSound r ⌝ }
 {
     let Sign::Natural(spent) = numbers::sign_of(actual) else {
         return Committing::Invalid;
@@ -208,7 +209,7 @@ pub fn commit(seat: Seat, booked: u64, actual: Microcents) -> Committing
 // "Release: .. remaining grows by the amount."
 pub fn release(seat: Seat, booked: u64) -> Releasing
     requires { ⌜ SeatSound seat × (booked ≤ seat .reserved) ⌝ }
-    ensures { λ r. ⌜ (releasingSettlement booked r ≡ releaseRule booked (accountOf seat) (seat .limit)) × ReleasingSound r ⌝ }
+    ensures { λ r. ⌜ (releasingSettlement booked r ≡ releaseRule (some booked) (accountOf seat) (seat .limit)) × ReleasingSound r ⌝ }
 {
     if seat.account == 0 {
         return Releasing::Missing;

@@ -64,7 +64,7 @@ pub record Live (L : Ledger) (id j : ℕ) : Type 0 where
 pub record Settled (L : Ledger) (x : AccountOperation ℕ) (id j : ℕ) (d : Due) (decided : Settlement) : Type 0 where
   pub found : Live L id j
   pub due : d ≡ dueAt L j
-  pub move : operate L x ≡ settle L (bookingAt L j) decided
+  pub move : operate L x ≡ settle L (some (bookingAt L j)) decided
   pub fits : SettlementFits decided
 
 module _ (xs : List ℕ) (L : Ledger) (room : IsRoom xs L) where
@@ -151,25 +151,25 @@ module _ (xs : List ℕ) (L : Ledger) (room : IsRoom xs L) where
 
   -- ── its settlement ───────────────────────────────────────────────────────────────────────────
 
-  module _ (x : AccountOperation ℕ) (id : ℕ) (missing : Refusal) (rule : ℕ → Option Account → ℕ → Settlement) (settles : operate L x ≡ onBooking L (booked id bs) missing rule) where
+  module _ (x : AccountOperation ℕ) (id : ℕ) (rule : Option ℕ → Option Account → ℕ → Settlement) (settles : operate L x ≡ onBooking L (booked id bs) rule) where
     -- no such reservation
-    pub refuses : booked id bs ≡ none → (r : Reply) → r ≡ replyOf missing → Performed (λ K. operate K x) L r xs
-    unfolding onBooking
-    refuses e r q = stays x L xs room r (replyOf missing) (settles ∙ ap (λ o. onBooking L o missing rule) e) q
+    pub refuses : booked id bs ≡ none → (e : Refusal) → rule none none 0 ≡ leave e → (r : Reply) → r ≡ replyOf e → Performed (λ K. operate K x) L r xs
+    unfolding onBooking settle
+    refuses is e left r q = stays x L xs room r (replyOf e) (settles ∙ ap (λ o. onBooking L o rule) is ∙ ap (settle L none) left) q
 
     -- the rule at what is due is the rule at the airline's seat
-    pub settled : (j : ℕ) → Live L id j → (d : Due) → d ≡ dueAt L j → (decided : Settlement) → decided ≡ rule (d .amount) (accountOf (d .seat)) (d .seat .limit)
-        → ((amount : ℕ) (c : Option Account) (l : ℕ) → AddsUp c → SettlementFits (rule amount c l)) → Settled L x id j d decided
+    pub settled : (j : ℕ) → Live L id j → (d : Due) → d ≡ dueAt L j → (decided : Settlement) → decided ≡ rule (some (d .amount)) (accountOf (d .seat)) (d .seat .limit)
+        → ((amount : ℕ) (c : Option Account) (l : ℕ) → AddsUp c → SettlementFits (rule (some amount) c l)) → Settled L x id j d decided
     unfolding dueAt onBooking
     settled j found d due decided by-rule well =
         let c : RulesBooking = bookingAt L j in
         let own : RulesSeat = seatIn (c .name) ps in
-        let is : decided ≡ rule (c .amount) (own .account) (own .limit) =
-        by-rule ∙ ap (λ (e : Due). rule (e .amount) (accountOf (e .seat)) (e .seat .limit)) due ∙ ap₂ (λ o l. rule (c .amount) o l) (kept-account own) (kept-limit own) in
+        let is : decided ≡ rule (some (c .amount)) (own .account) (own .limit) =
+        by-rule ∙ ap (λ (e : Due). rule (some (e .amount)) (accountOf (e .seat)) (e .seat .limit)) due ∙ ap₂ (λ o l. rule (some (c .amount)) o l) (kept-account own) (kept-limit own) in
         record {
           found = found;
           due = due;
-          move = settles ∙ ap (λ o. onBooking L o missing rule) (found .is) ∙ ap (settle L c) (sym is);
+          move = settles ∙ ap (λ o. onBooking L o rule) (found .is) ∙ ap (settle L (some c)) (sym is);
           fits = subst SettlementFits (sym is) (well (c .amount) (own .account) (own .limit) (seatIn-all (λ t. AddsUp (t .account)) ps tt (room .sound .accounts-add-up) (c .name)));
         }
 

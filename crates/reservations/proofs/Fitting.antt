@@ -11,7 +11,7 @@ use lib.Signed.{ltZ}
 use Rattle.rules.specs.Lists.{All}
 use Rattle.rules.specs.RoomAndSoundLedger.{M, Account, isVacant, hasAccount, AddsUp}
 use Rattle.rules.specs.AnswerNumbers.{Value, Amount, Identifier, Version, Fence, Count, Field, YesOrNo, TheName, SnapshotBytes, Refusal, replyOf}
-use Rattle.rules.specs.AccountRules.{Move, refuse, tell, write, lose, book, Settlement, leave, end, natural, reserveChecks, reserveRule, commitRule, releaseRule}
+use Rattle.rules.specs.AccountRules.{Move, refuse, tell, write, lose, book, Settlement, leave, end, natural, reserveRule, commitRule, releaseRule}
 use Rattle.rules.proofs.Tests.{by-test}
 use Rattle.moves.specs.Moves.{accountOf, kept, keptSeat, SeatSound}
 use Rattle.moves.specs.declared.Seat.{Seat}
@@ -42,18 +42,18 @@ abbrev pub SettlementFits : Settlement → Type 0
 SettlementFits (leave e) = Small e
 SettlementFits (end zs s) = isVacant s ≡ false
 
-pub reserve-fits : (last : Bool) (z : ℤ) (c : Option Account) (l : ℕ) → AddsUp c → l ≤ M → MoveFits last c (reserveRule last l (reserveChecks z c l))
-unfolding reserveRule reserveChecks
+pub reserve-fits : (last : Bool) (z : ℤ) (c : Option Account) (l : ℕ) → AddsUp c → l ≤ M → MoveFits last c (reserveRule z last c l)
+unfolding reserveRule
 reserve-fits last (negsuc n) c l adds small = (omega arith, (omega arith, tt))
 reserve-fits last (pos zero) c l adds small = (omega arith, (omega arith, tt))
 reserve-fits last (pos (suc n)) none l adds small = tt
 reserve-fits last (pos (suc n)) (some c) l (e, m) small =
-    by-test (λ k. MoveFits last (some c) (reserveRule last l k)) (ltb M (c .reserved + suc n)) (λ t. (omega arith, tt))
-    (λ t. by-test (λ k. MoveFits last (some c) (reserveRule last l k)) (ltb 0 l && ltb l (c .reserved + suc n)) (λ u. (omega arith, (small, tt)))
+    by-test (MoveFits last (some c)) (ltb M (c .reserved + suc n)) (λ t. (omega arith, tt))
+    (λ t. by-test (MoveFits last (some c)) (ltb 0 l && ltb l (c .reserved + suc n)) (λ u. (omega arith, (small, tt)))
     (λ u. by-test (MoveFits last (some c)) last (λ v. (omega arith, tt))
     (λ v. by-test (MoveFits last (some c)) (ltb (c .remaining) (suc n)) (λ w. ((omega arith, (omega (arith, ltb-false M (c .reserved + suc n) t), tt)), v)) (λ w. (v, refl, refl)))))
 
-pub commit-fits : (z : ℤ) (amount : ℕ) (c : Option Account) (l : ℕ) → AddsUp c → SettlementFits (commitRule z amount c l)
+pub commit-fits : (z : ℤ) (amount : ℕ) (c : Option Account) (l : ℕ) → AddsUp c → SettlementFits (commitRule z (some amount) c l)
 unfolding commitRule
 commit-fits (negsuc n) amount c l adds = tt
 commit-fits (pos actual) amount none l adds = tt
@@ -61,7 +61,7 @@ commit-fits (pos actual) amount (some c) l (e, m) =
     by-test SettlementFits (ltb M (c .committed + actual)) (λ t. (omega arith, tt))
     (λ t. by-test SettlementFits (ltZ (pos (c .remaining)) (pos actual -ℤ pos amount)) (λ u. (omega arith, tt)) (λ u. refl))
 
-pub release-fits : (amount : ℕ) (c : Option Account) (l : ℕ) → SettlementFits (releaseRule amount c l)
+pub release-fits : (amount : ℕ) (c : Option Account) (l : ℕ) → SettlementFits (releaseRule (some amount) c l)
 unfolding releaseRule
 release-fits amount none l = tt
 release-fits amount (some c) l = refl

@@ -10,7 +10,7 @@ use lib.IntN.{ℤ, pos}
 use lib.ListN.{length}
 use Rattle.rules.specs.RoomAndSoundLedger.{M, Name, Seat as RulesSeat, Place as RulesPlace, Ledger, withPlaces, withBookings, seatIn, hasAccount, holdsPlace, AddsUp}
 use Rattle.rules.specs.AnswerNumbers.{Amount, Identifier as TheIdentifier, Reply, done, NameTooLong, ReservationsFull, Insufficient, Refusal, replyOf, outcome, refused}
-use Rattle.rules.specs.AccountRules.{Move, refuse, book, reserveChecks, reserveRule, nextIdIsM, reserve, operate, onName, perform, drawn, seated}
+use Rattle.rules.specs.AccountRules.{Move, refuse, book, reserveRule, nextIdIsM, reserve, operate, onName, perform, drawn, seated}
 use Rattle.rules.specs.Domain.{IsBytes, IsAmount}
 use Rattle.rules.proofs.Places.{seatIn-all, account-holds}
 use Rattle.moves.specs.Moves.{accountOf, meaning, keptSeat, SeatSound, reservingMove, ReservingSound}
@@ -108,16 +108,16 @@ module _ (xs : List ℕ) (L : Ledger) (room : IsRoom xs L) (a : Name) where
     too-long long = stays (reserve a z) L xs room _ (replyOf NameTooLong) (unfold operate onName perform in rw (lt-ltb 24 (length a) long)) refl
 
     abbrev ruleAt : Seat → ℕ → Move
-    ruleAt s n = reserveRule (eqb n M) (s .limit) (reserveChecks z (accountOf s) (s .limit))
+    ruleAt s n = reserveRule z (eqb n M) (accountOf s) (s .limit)
 
     pub decides : length a ≤ 24 → (f : Found) → f ≡ placeOfName a searched → (s : Seat) → s ≡ seatFound f searched → (h : Head) → h ≡ headOf xs
         → (r : Reserving) → reservingMove z r ≡ ruleAt s (h .«next_id») → ReservingSound r → Decided L a z r
     decides short f e s q h k r m sound =
         let own : RulesSeat = seatIn a ps in
-        let rule : Move = reserveRule (nextIdIsM L) (own .limit) (reserveChecks z (own .account) (own .limit)) in
+        let rule : Move = reserveRule z (nextIdIsM L) (own .account) (own .limit) in
         let is : reservingMove z r ≡ rule =
         m ∙ ap (λ t. ruleAt t (h .«next_id»)) (seat-is f e s q) ∙ ap (λ (g : Head). ruleAt (keptSeat own) (g .«next_id»)) (k ∙ head-is xs L room)
-        ∙ ap₂ (λ l c. reserveRule (nextIdIsM L) l (reserveChecks z c l)) (kept-limit own) (kept-account own) in
+        ∙ ap₂ (λ c l. reserveRule z (nextIdIsM L) c l) (kept-account own) (kept-limit own) in
         let named : operate L (reserve a z) ≡ perform L a rule = unfold operate onName in rw (le-ltb 24 (length a) short) in
         record {
           move = named ∙ ap (perform L a) (sym is);

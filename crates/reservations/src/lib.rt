@@ -10,11 +10,12 @@ use numbers::Sign;
 use records::Booking;
 use records::Head;
 ghost use mathlib.Core.Path.{_≡_};
+ghost use mathlib.Core.Option.{none};
 ghost use Prim.Native.Nat.{_≤_, _<_};
 ghost use lib.ListN.{length};
 ghost use Rattle.rules.specs.RoomAndSoundLedger.{M};
-ghost use Rattle.rules.specs.AnswerNumbers.{replyOf};
-ghost use Rattle.rules.specs.AccountRules.{reserve, commit, release, commitOfNone, operate};
+ghost use Rattle.rules.specs.AnswerNumbers.{Refusal, replyOf};
+ghost use Rattle.rules.specs.AccountRules.{leave, commitRule, reserve, commit, release, operate};
 ghost use Rattle.heads.specs.Heads.{afterDraw};
 ghost use Rattle.room.specs.Contents.{contentsOf, Sized, withHead, removedBooking};
 ghost use Rattle.room.specs.Room.{SoundRoom, Performs, OfRoom};
@@ -170,9 +171,9 @@ pub fn commit(room: &mut [u8], id: Identifier, actual: Microcents) -> Committed
     }
 }
 
-// "actual below 0 gives 2; 7"
+// A commit where no reservation is live: 2 for a negative amount comes before 7.
 fn missing_commit(actual: Microcents) -> Committed
-    ensures { λ r. ⌜ committedReply r ≡ replyOf (commitOfNone (actual .0)) ⌝ }
+    ensures { λ r. ⌜ ((e : Refusal) × (commitRule (actual .0) none none 0 ≡ leave e) × (committedReply r ≡ replyOf e)) ⌝ }
 {
     let Sign::Natural(_) = numbers::sign_of(actual) else {
         return Committed::InvalidAmount;

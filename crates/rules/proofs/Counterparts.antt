@@ -2,13 +2,13 @@
 -- the paired id, and is the counterpart of its counterpart. So the one's bookings, under paired ids and in id order again, are the other's.
 use mathlib.Core.Path.{_≡_, refl, sym, _∙_, ap}
 use mathlib.Core.List.{map}
-use mathlib.Core.Option.{Option, none, some}
+use mathlib.Core.Option.{Option, none, some, Option·getD, Option·map}
 use Prim.Native.Nat.{ℕ}
 use native.Mathlib.Omega.{arith}
 use Rattle.rules.specs.Lists.{All, Pairwise}
 use Rattle.rules.specs.RoomAndSoundLedger.{Booking}
 use Rattle.rules.specs.AccountRules.{booked}
-use Rattle.rules.specs.OrderBetweenAirlines.{Reference, idOf, Stage, idOfNoted, pairedId, withPairedId, inIdOrder}
+use Rattle.rules.specs.OrderBetweenAirlines.{Reference, idOf, Stage, pairedId, withPairedId, inIdOrder}
 use Rattle.rules.proofs.Tests.{by-option, none-some}
 use Rattle.rules.proofs.Lists.{all-map}
 use Rattle.rules.proofs.Bookings.{Below, booked-id, booked-all}
@@ -46,7 +46,7 @@ counterpart t u ot ou same-live b live = go (bookingOf k u) refl (sym (same-live
     here = ap (λ i. booked i (t .ledger .bookings)) id-here ∙ live
 
     id-there : pairedId (t .notes) (u .notes) (b .id) ≡ idOf k (u .notes)
-    id-there = ap (λ o. idOfNoted o (u .notes)) (noted .1)
+    id-there = ap (λ o. Option·getD (Option·map (λ k. idOf k (u .notes)) o) 0) (noted .1)
 
     go : (o : Option Booking) → bookingOf k u ≡ o → amountOf (bookingOf k u) ≡ some (b .amount) → Counterpart t u b
     go none e f = none-some (sym (ap amountOf e) ∙ f)
@@ -57,7 +57,7 @@ counterpart t u ot ou same-live b live = go (bookingOf k u) refl (sym (same-live
         let id : c .id ≡ pairedId (t .notes) (u .notes) (b .id) = booked-id (idOf k (u .notes)) (u .ledger .bookings) c e ∙ sym id-there in
         record {
           live = ap (λ i. booked i (u .ledger .bookings)) id-there ∙ e ∙ ap some (λ i. record { id = id i; name = name i; amount = amount i });
-          back = ap (pairedId (u .notes) (t .notes)) id-there ∙ ap (λ o. idOfNoted o (t .notes)) (noted-reference u ou k c e) ∙ id-here;
+          back = ap (pairedId (u .notes) (t .notes)) id-there ∙ ap (λ o. Option·getD (Option·map (λ k. idOf k (t .notes)) o) 0) (noted-reference u ou k c e) ∙ id-here;
         }
 
 module _ (t u : Stage) (ot : Orderly t) (ou : Orderly u) (same-live : SameLive t u) where

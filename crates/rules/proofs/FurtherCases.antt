@@ -10,10 +10,10 @@ use lib.ListN.{replicate}
 use Rattle.rules.specs.Lists.{first, any, keep, sum}
 use Rattle.rules.specs.RoomAndSoundLedger.{M, mostNames, mostReservations, Name, order, same, holdsPlace, seatIn, committedTotal, fresh, made}
 use Rattle.rules.specs.AnswerNumbers.{Amount, Version, Count, YesOrNo, SnapshotBytes, Reply, done, NegativeAmount, InvalidAmount, MissingTenant, MissingReservation, ActiveReservations, DuplicateTenant, GhostReservation, NegativeLedgerField, ConservationViolation, AggregateOverflow, AlreadyRecoveryAware, InvalidAllocatorFence, LegacySnapshotRequiresMigration, NameTooLong, NamesFull, ReservationsFull, replyOf, Lent, sound, unsound, answered, onLent, makingReply}
-use Rattle.rules.specs.AccountRules.{ensureRule, topUpRule, limitRule, reserveChecks, reserveRule, commitRule, commitOfNone, releaseRule, readRule, readReservedRule, put, freed, seated, booked, ended, doneWith, perform, settle, AccountOperation, ensure, topUp, limit, reserve, commit, release, readRemaining, readReserved, onName, onBooking, operate, LedgerRead, readCommittedTotal, readAccounts, readLive, readLastVersion, readCommittedSince, readLedger, readLent}
+use Rattle.rules.specs.AccountRules.{ensureRule, topUpRule, limitRule, reserveRule, commitRule, releaseRule, readRule, readReservedRule, put, freed, seated, booked, ended, doneWith, perform, settle, AccountOperation, ensure, topUp, limit, reserve, commit, release, readRemaining, readReserved, onName, onBooking, operate, LedgerRead, readCommittedTotal, readAccounts, readLive, readLastVersion, readCommittedSince, readLedger, readLent}
 use Rattle.rules.specs.SnapshotsMigrationCertificates.{Row, Snapshot, bytesOf, numberFrom, rowBytes, snapshotBytes, readPart, readNumber, readAmount, readName, readRow, readRows, readCount, readSnapshot, hasLongName, accountRows, tagged, takingSnapshot, snapshot, _gives_else_, andThen, rowConservation, conservation, rowValidation, rowsValidation, validation, restoreVersion, recoveryVersion, restoredPlaces, orElse, restoreRefusal, restore, recoveryRestore, replyOr, migrate, status, exactTotal, certificate, certificateOfSnapshot, certificateOfLedger, conservationProof}
 use Rattle.rules.specs.Frames.{bytesOfLine, Operation, onAccount, takeSnapshot, certifyLedger, proveConservation, restoreFrom, recoverFrom, judge, migrateTo, certify, codes, readOperation, operationOf, answer, replyBytes, lineOfBytes, answerLine, operationOfLine, answerToLine, pieces, counted, linesOf, answersToLines, house}
-use Rattle.rules.specs.MarkedCases.{charactersOf, Q1, Case, case, with100, granted, answersTo, ran}
+use Rattle.rules.specs.MarkedCases.{charactersOf, Q1, Case, case, with100, granted, lastAnswer, ran}
 
 abbrev Q2 : Name
 Q2 = charactersOf "Q2"
@@ -112,7 +112,7 @@ furtherCases =
     ∷ []
 
 further-cases : map ran furtherCases ≡ furtherCases
-unfolding furtherCases first any keep sum M order same holdsPlace seatIn committedTotal fresh onLent ensureRule topUpRule limitRule reserveChecks reserveRule commitRule commitOfNone releaseRule readRule readReservedRule put freed seated booked ended perform settle onName onBooking operate bytesOf rowBytes flatMap snapshotBytes hasLongName accountRows takingSnapshot snapshot _gives_else_ andThen rowConservation conservation rowValidation rowsValidation validation restoreVersion recoveryVersion restoredPlaces restoreRefusal orElse restore recoveryRestore replyOr migrate status exactTotal certificate certificateOfSnapshot certificateOfLedger conservationProof answer charactersOf Q1 answersTo ran
+unfolding furtherCases first any keep sum M order same holdsPlace seatIn committedTotal fresh onLent ensureRule topUpRule limitRule reserveRule commitRule releaseRule readRule readReservedRule put freed seated booked ended perform settle onName onBooking operate bytesOf rowBytes flatMap snapshotBytes hasLongName accountRows takingSnapshot snapshot _gives_else_ andThen rowConservation conservation rowValidation rowsValidation validation restoreVersion recoveryVersion restoredPlaces restoreRefusal orElse restore recoveryRestore replyOr migrate status exactTotal certificate certificateOfSnapshot certificateOfLedger conservationProof answer charactersOf Q1 lastAnswer ran
 further-cases = refl
 
 -- ── reads over the whole ledger ────────────────────────────────────────────────────────────────
@@ -146,10 +146,10 @@ readCases =
     overfull = row Q1 (pos M) (pos 0) (pos 0) (pos M) ∷ row Q2 (pos 1) (pos 0) (pos 0) (pos 1) ∷ []
 
 readAnswered : ReadCase → ReadCase
-readAnswered c = record { operations = c .operations; read = c .read; answer = readLent (answersTo (answered (done []) (sound (fresh mostNames mostReservations))) (c .operations) .lent) (c .read) }
+readAnswered c = record { operations = c .operations; read = c .read; answer = readLent (lastAnswer (answered (done []) (sound (fresh mostNames mostReservations))) (c .operations) .lent) (c .read) }
 
 read-cases : map readAnswered readCases ≡ readCases
-unfolding readCases readAnswered readLent readLedger first any keep sum M order same holdsPlace seatIn committedTotal fresh onLent ensureRule limitRule reserveChecks reserveRule commitRule put freed seated booked ended perform settle onName onBooking operate bytesOf rowBytes flatMap snapshotBytes hasLongName accountRows takingSnapshot snapshot _gives_else_ andThen rowConservation conservation rowValidation rowsValidation validation restoreVersion restoredPlaces restoreRefusal orElse restore answer charactersOf Q1 answersTo
+unfolding readCases readAnswered readLent readLedger first any keep sum M order same holdsPlace seatIn committedTotal fresh onLent ensureRule limitRule reserveRule commitRule put freed seated booked ended perform settle onName onBooking operate bytesOf rowBytes flatMap snapshotBytes hasLongName accountRows takingSnapshot snapshot _gives_else_ andThen rowConservation conservation rowValidation rowsValidation validation restoreVersion restoredPlaces restoreRefusal orElse restore answer charactersOf Q1 lastAnswer
 read-cases = refl
 
 -- ── making a ledger, and output room ───────────────────────────────────────────────────────────
@@ -228,5 +228,5 @@ deskOutput : List ℕ
 deskOutput = charactersOf "00\n0000000000000000c800000000000004b000000000000004b0\n00\n00000000000000047e0000000000000001\n0000000000000004b00000000000000032\n008000000000000003000000000000000100000000000000000100000000000004b00000000000000000010000000000000000\n0080000000000000040000000000000001000000000000000000000000000004b0000000000000000001\n0a0000000000000001\n0b025131\n0c0251310000000000000005\n0d02513103fffffffffffffffc\n0d00040000000000000005\n0e025131fffffffffffffffe\n00\n12\n110000000000000000\n00\n00800000000000000500000000000000000001025131000000000000000a000000000000000700000000000000000000000000000003\n110000000000000000\n0000000000000000010000000000000001000000000000000200000000000000000a0000000000000001010000000000000006\n0e025131fffffffffffffffe\n07\n02\n00800000000000000a00000000000000000001025131000000000000000a000000000000000700000000000000000000000000000003\n"
 
 desk-lines : house deskInput ≡ deskOutput
-unfolding deskInput deskOutput first any keep sum M order same holdsPlace seatIn committedTotal fresh onLent ensureRule topUpRule limitRule reserveChecks reserveRule commitOfNone releaseRule put freed seated booked ended perform settle onName onBooking operate bytesOf numberFrom rowBytes flatMap snapshotBytes readPart readNumber readAmount readName readRow readRows readCount readSnapshot hasLongName accountRows takingSnapshot snapshot _gives_else_ andThen rowConservation conservation rowValidation rowsValidation validation restoreVersion recoveryVersion restoredPlaces restoreRefusal orElse restore recoveryRestore replyOr migrate status exactTotal certificate certificateOfSnapshot certificateOfLedger conservationProof bytesOfLine codes readOperation operationOf answer replyBytes lineOfBytes answerLine operationOfLine answerToLine pieces counted linesOf answersToLines house charactersOf
+unfolding deskInput deskOutput first any keep sum M order same holdsPlace seatIn committedTotal fresh onLent ensureRule topUpRule limitRule reserveRule commitRule releaseRule put freed seated booked ended perform settle onName onBooking operate bytesOf numberFrom rowBytes flatMap snapshotBytes readPart readNumber readAmount readName readRow readRows readCount readSnapshot hasLongName accountRows takingSnapshot snapshot _gives_else_ andThen rowConservation conservation rowValidation rowsValidation validation restoreVersion recoveryVersion restoredPlaces restoreRefusal orElse restore recoveryRestore replyOr migrate status exactTotal certificate certificateOfSnapshot certificateOfLedger conservationProof bytesOfLine codes readOperation operationOf answer replyBytes lineOfBytes answerLine operationOfLine answerToLine pieces counted linesOf answersToLines house charactersOf
 desk-lines = refl

@@ -4,17 +4,25 @@ use mathlib.Core.Path.{_≡_, refl, sym, _∙_, ap, subst}
 use mathlib.Core.Logic.{_⊎_, inl, inr, _≢_}
 use mathlib.Core.Bool.{true, false, cond, _&&_}
 use mathlib.Core.List.{List, _∷_}
-use mathlib.Core.Option.{some}
+use mathlib.Core.Option.{Option, some, Option·getD, Option·map}
 use Prim.Native.Nat.{ℕ}
 use borrow.Author.Tests.{eqb-true, eq-eqb, ne-eqb}
 use lib.Dec.{eqb}
 use Rattle.rules.specs.Lists.{first, All, Pairwise}
 use Rattle.rules.specs.RoomAndSoundLedger.{same}
-use Rattle.rules.specs.OrderBetweenAirlines.{Which, liveAtStart, grant, Reference, reference, Note, sameWhich, sameReference, isNoteOf, idNoted, idOf, isNoteFor, referenceNoted, referenceOf}
+use Rattle.rules.specs.OrderBetweenAirlines.{Which, liveAtStart, grant, Reference, reference, Note, sameWhich, sameReference, isNoteOf, isNoteFor, idOf, referenceOf}
 use Rattle.rules.proofs.Tests.{by-bool, by-option, true-false, none-some}
 use Rattle.rules.proofs.Lists.{first-passes, first-all}
 use Rattle.rules.proofs.Names.{same-self, same-true}
 use Rattle.rules.proofs.Keys.{pairwise-map, all-found}
+
+-- ── what a look-up among the notes comes to ────────────────────────────────────────────────────
+
+abbrev pub idNoted : Option Note → ℕ
+idNoted o = Option·getD (Option·map (λ n. n .id) o) 0
+
+abbrev pub referenceNoted : Option Note → Option Reference
+referenceNoted o = Option·map (λ n. n .reference) o
 
 -- ── the same reference ─────────────────────────────────────────────────────────────────────────
 

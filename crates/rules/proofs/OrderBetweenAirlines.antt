@@ -12,7 +12,7 @@ use Rattle.rules.proofs.ByAirline.{same-sum, all-by-airline}
 use Rattle.rules.proofs.SameTables.{same-places}
 use Rattle.rules.proofs.Plans.{ownPart}
 use Rattle.rules.proofs.Stages.{Orderly, orderly-start}
-use Rattle.rules.proofs.OwnRuns.{ownRun, ownAnswers, ownDraws, drawsOf, drawsBy, fixedPart, RunFits, ByOwn, by-own, Reaches, reaches}
+use Rattle.rules.proofs.OwnRuns.{plannedPart, plannedAnswers, plannedDraws, drawsOf, drawsBy, fixedPart, RunFits, ByOwn, by-own, Reaches, reaches}
 use Rattle.rules.proofs.Counterparts.{same-paired}
 
 same-ledger : (K L : Ledger) → fixedPart K ≡ fixedPart L → K .nextId ≡ L .nextId → K .places ≡ L .places → K .bookings ≡ L .bookings → K ≡ L
@@ -33,7 +33,7 @@ same-operations count xs ys order = same-sum airlineOf count xs ys order
 -- airline. One that names no reservation of its airline is answered alike in both orders.
 pub order-between-airlines : (L : Ledger) → Sound L → (xs ys : Run) → All AccountOperationFits xs → KeepsOwnOrder xs ys → runMeets (start L) xs ≡ false → runMeets (start L) ys ≡ false → Agree L xs ys
 order-between-airlines L sound xs ys fits order clear clear′ = record {
-  answers = λ a. own a .answers ∙ ap (ownAnswers (ownPart a (start L))) (order a) ∙ sym (own′ a .answers);
+  answers = λ a. own a .answers ∙ ap (plannedAnswers (ownPart a (start L))) (order a) ∙ sym (own′ a .answers);
   ledger = same-ledger (paired one other) (other .ledger) fixed next places bookings;
 }
   where
@@ -62,10 +62,10 @@ order-between-airlines L sound xs ys fits order clear clear′ = record {
     end′ = reaches ys (start L) orderly fits′ clear′
 
     parts : (a : Name) → ownPart a one ≡ ownPart a other
-    parts a = own a .part ∙ ap (ownRun (ownPart a (start L))) (order a) ∙ sym (own′ a .part)
+    parts a = own a .part ∙ ap (plannedPart (ownPart a (start L))) (order a) ∙ sym (own′ a .part)
 
     draws : (a : Name) → drawsBy a (drawsOf (start L) xs) ≡ drawsBy a (drawsOf (start L) ys)
-    draws a = own a .draws ∙ ap (ownDraws (ownPart a (start L))) (order a) ∙ sym (own′ a .draws)
+    draws a = own a .draws ∙ ap (plannedDraws (ownPart a (start L))) (order a) ∙ sym (own′ a .draws)
 
     fixed : fixedPart (paired one other) ≡ fixedPart (other .ledger)
     fixed = unfold paired in end .fixed ∙ sym (end′ .fixed)

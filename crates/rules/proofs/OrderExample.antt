@@ -8,8 +8,8 @@ use lib.IntN.{pos}
 use Rattle.rules.specs.Lists.{first, any, keep}
 use Rattle.rules.specs.RoomAndSoundLedger.{M, Name, order, same, seat, place, Booking, Ledger, holdsPlace, seatIn, fresh}
 use Rattle.rules.specs.AnswerNumbers.{Amount, Identifier, done, Insufficient, replyOf}
-use Rattle.rules.specs.AccountRules.{account, ensureRule, limitRule, reserveChecks, reserveRule, commitRule, releaseRule, readRule, readReservedRule, put, seated, booked, ended, doneWith, perform, settle, ensure, limit, reserve, commit, release, readRemaining, readReserved, onName, onBooking, operate}
-use Rattle.rules.specs.OrderBetweenAirlines.{liveAtStart, grant, reference, Run, airlineOf, sameWhich, idOf, referenceOf, grantsOf, start, withId, idIn, grantedId, outcomeAt, onward, after, withoutIds, Answer, answerTo, answersOf, answersTo, ownOperations, KeepsOwnOrder, meetsEndOfIds, meets, runMeets, pairedId, insertById, inIdOrder, paired}
+use Rattle.rules.specs.AccountRules.{account, ensureRule, limitRule, reserveRule, commitRule, releaseRule, readRule, readReservedRule, put, seated, booked, ended, doneWith, perform, settle, ensure, limit, reserve, commit, release, readRemaining, readReserved, onName, onBooking, operate}
+use Rattle.rules.specs.OrderBetweenAirlines.{liveAtStart, grant, reference, Run, airlineOf, sameWhich, idOf, referenceOf, grantsOf, start, outcomeAt, identifierIn, grantedId, onward, after, withoutIds, AirlineAnswer, answerTo, answersOf, ownOperations, ownAnswers, KeepsOwnOrder, meetsEndOfIds, meets, runMeets, pairedId, insertById, inIdOrder, paired}
 use Rattle.rules.proofs.Names.{same-or-not}
 
 abbrev A : Name
@@ -24,7 +24,7 @@ desk = operate (operate (fresh 4 4) (ensure A (pos 100)) .ledger) (reserve A (po
 
 -- what the facts below compute with
 computes : Unit {0}
-unfolding first any keep M order same holdsPlace seatIn fresh ensureRule limitRule reserveChecks reserveRule commitRule releaseRule readRule readReservedRule put seated booked ended perform settle onName onBooking operate airlineOf sameWhich idOf grantsOf start withId idIn grantedId outcomeAt onward desk after withoutIds answersOf answersTo meetsEndOfIds meets runMeets referenceOf pairedId insertById inIdOrder paired
+unfolding first any keep M order same holdsPlace seatIn fresh ensureRule limitRule reserveRule commitRule releaseRule readRule readReservedRule put seated booked ended perform settle onName onBooking operate airlineOf sameWhich idOf grantsOf start identifierIn grantedId outcomeAt onward desk after withoutIds answersOf ownAnswers meetsEndOfIds meets runMeets referenceOf pairedId insertById inIdOrder paired
 computes = tt
 
 -- A reserves 10 and then 500, which it has not, and B comes between
@@ -93,7 +93,7 @@ paired-ledgers : paired (after (start desk) evening) (after (start desk) rebalan
 paired-ledgers = paired-ledger ∙ sym rebalanced-ledger
 
 -- the answers, their ids hidden
-abbrev toA : List Answer
+abbrev toA : List AirlineAnswer
 toA =
     answerTo A (done (Amount (pos 85) ∷ Identifier 0 ∷ []))
     ∷ answerTo A (replyOf (Insufficient 85 (pos 500)))
@@ -104,7 +104,7 @@ toA =
     ∷ answerTo A (doneWith (pos 89 ∷ []))
     ∷ []
 
-abbrev toB : List Answer
+abbrev toB : List AirlineAnswer
 toB =
     answerTo B (done [])
     ∷ answerTo B (done (Amount (pos 20) ∷ Identifier 0 ∷ []))
@@ -113,19 +113,19 @@ toB =
     ∷ answerTo B (doneWith (pos 20 ∷ []))
     ∷ []
 
-evening-to-A : answersTo A (answersOf (start desk) evening) ≡ toA
+evening-to-A : ownAnswers A (answersOf (start desk) evening) ≡ toA
 unfolding computes
 evening-to-A = refl
 
-rebalanced-to-A : answersTo A (answersOf (start desk) rebalanced) ≡ toA
+rebalanced-to-A : ownAnswers A (answersOf (start desk) rebalanced) ≡ toA
 unfolding computes
 rebalanced-to-A = refl
 
-evening-to-B : answersTo B (answersOf (start desk) evening) ≡ toB
+evening-to-B : ownAnswers B (answersOf (start desk) evening) ≡ toB
 unfolding computes
 evening-to-B = refl
 
-rebalanced-to-B : answersTo B (answersOf (start desk) rebalanced) ≡ toB
+rebalanced-to-B : ownAnswers B (answersOf (start desk) rebalanced) ≡ toB
 unfolding computes
 rebalanced-to-B = refl
 

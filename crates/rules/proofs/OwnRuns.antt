@@ -8,26 +8,26 @@ use Prim.Native.Nat.{ℕ, _+_}
 use native.Mathlib.Omega.{arith}
 use Rattle.rules.specs.Lists.{keep, sum, All}
 use Rattle.rules.specs.RoomAndSoundLedger.{Name, same, Ledger, Sound}
-use Rattle.rules.specs.AccountRules.{AccountOperation, ensure, topUp, limit, reserve, commit, release, readRemaining, readInitial, readCommitted, readReserved}
+use Rattle.rules.specs.AccountRules.{AccountOperation, Rule, forName, forReservation, ruleOf}
 use Rattle.rules.specs.Domain.{AccountOperationFits}
-use Rattle.rules.specs.OrderBetweenAirlines.{Reference, Run, airlineOf, Note, Stage, withId, idIn, outcomeAt, onward, after, withoutIds, Answer, answerTo, answersOf, answersTo, ownOperations, meets, runMeets}
+use Rattle.rules.specs.OrderBetweenAirlines.{Reference, Run, airlineOf, Note, Stage, withIdFrom, outcomeAt, identifierIn, onward, after, withoutIds, AirlineAnswer, answerTo, answersOf, ownOperations, ownAnswers, meets, runMeets}
 use Rattle.rules.proofs.Tests.{by-bool, or-false}
 use Rattle.rules.proofs.Names.{same-true}
-use Rattle.rules.proofs.Soundness.{operate-sound}
+use Rattle.rules.proofs.Soundness.{RuleSound, rule-sound, apply-sound}
 use Rattle.rules.proofs.Plans.{OwnPart, ownPart, Plan, stays, writes, loses, books, ends, planOf, enact, says, Enacts, meets-none, enacts-its-plan}
 use Rattle.rules.proofs.Stages.{Orderly, of-its-airline, orderly-enact}
 use Rattle.rules.proofs.OwnParts.{ownAfter, own-enact, own-other}
 
 -- ── a run as its airline sees it ───────────────────────────────────────────────────────────────
 
-unfoldable pub ownRun : OwnPart → Run → OwnPart
-ownRun o [] = o
-ownRun o (x ∷ xs) = ownRun (ownAfter o (planOf x o)) xs
+unfoldable pub plannedPart : OwnPart → Run → OwnPart
+plannedPart o [] = o
+plannedPart o (x ∷ xs) = plannedPart (ownAfter o (planOf x o)) xs
 
 -- ids are hidden, so any will do
-unfoldable pub ownAnswers : OwnPart → Run → List Answer
-ownAnswers o [] = []
-ownAnswers o (x ∷ xs) = answerTo (airlineOf x) (withoutIds (says 0 (planOf x o))) ∷ ownAnswers (ownAfter o (planOf x o)) xs
+unfoldable pub plannedAnswers : OwnPart → Run → List AirlineAnswer
+plannedAnswers o [] = []
+plannedAnswers o (x ∷ xs) = answerTo (airlineOf x) (withoutIds (says 0 (planOf x o))) ∷ plannedAnswers (ownAfter o (planOf x o)) xs
 
 -- the ids that an operation draws, and its airline
 pub record Draw : Type 0 where
@@ -44,9 +44,9 @@ countOf (loses r) = 1
 countOf (books remaining s cost) = 1
 countOf (ends r s w) = 0
 
-unfoldable pub ownDraws : OwnPart → Run → List Draw
-ownDraws o [] = []
-ownDraws o (x ∷ xs) = draw (airlineOf x) (countOf (planOf x o)) ∷ ownDraws (ownAfter o (planOf x o)) xs
+unfoldable pub plannedDraws : OwnPart → Run → List Draw
+plannedDraws o [] = []
+plannedDraws o (x ∷ xs) = draw (airlineOf x) (countOf (planOf x o)) ∷ plannedDraws (ownAfter o (planOf x o)) xs
 
 -- the plan of an operation at a stage
 abbrev pub planAt : Stage → AccountOperation Reference → Plan
@@ -62,7 +62,7 @@ drawsBy a = keep (λ d. same a (d .airline))
 -- ── one operation ──────────────────────────────────────────────────────────────────────────────
 
 says-hidden : (i : ℕ) (p : Plan) → withoutIds (says i p) ≡ withoutIds (says 0 p)
-unfolding withoutIds says idIn
+unfolding withoutIds says identifierIn
 says-hidden i (stays r) = refl
 says-hidden i (writes r s) = refl
 says-hidden i (loses r) = refl
@@ -89,22 +89,13 @@ fixed-enact t a (loses r) = refl
 fixed-enact t a (books remaining s cost) = refl
 fixed-enact t a (ends r s w) = refl
 
-fits-with-id : (ns : List Note) (x : AccountOperation Reference) → AccountOperationFits x → AccountOperationFits (withId ns x)
-unfolding withId
-fits-with-id ns (ensure a z) f = f
-fits-with-id ns (topUp a z) f = f
-fits-with-id ns (limit a z) f = f
-fits-with-id ns (reserve a z) f = f
-fits-with-id ns (commit k z) f = f
-fits-with-id ns (release k) f = f
-fits-with-id ns (readRemaining a) f = f
-fits-with-id ns (readInitial a) f = f
-fits-with-id ns (readCommitted a) f = f
-fits-with-id ns (readReserved a) f = f
+sound-with-id : (ns : List Note) (r : Rule Reference) → RuleSound r → RuleSound (withIdFrom ns r)
+sound-with-id ns (forName a rule) f = f
+sound-with-id ns (forReservation k rule) f = f
 
 module _ (t : Stage) (orderly : Orderly t) (x : AccountOperation Reference) (fits : AccountOperationFits x) (clear : meets t x ≡ false) where
   enacts : Enacts t (airlineOf x) (outcomeAt t x) (planAt t x)
-  enacts = enacts-its-plan t x (of-its-airline t orderly) (meets-none t x clear)
+  enacts = enacts-its-plan t (of-its-airline t orderly) x (meets-none t x clear)
 
   pub onward-is : onward t x ≡ enact t (airlineOf x) (planAt t x)
   unfolding onward
@@ -114,7 +105,7 @@ module _ (t : Stage) (orderly : Orderly t) (x : AccountOperation Reference) (fit
   orderly-onward = rw onward-is (orderly-enact t orderly (airlineOf x) (planAt t x) (rw onward-is at sound))
     where
       sound : Sound (onward t x .ledger)
-      sound = unfold onward outcomeAt in operate-sound (t .ledger) (orderly .sound) (withId (t .notes) x) (fits-with-id (t .notes) x fits)
+      sound = unfold onward outcomeAt in apply-sound (t .ledger) (orderly .sound) (withIdFrom (t .notes) (ruleOf x)) (sound-with-id (t .notes) (ruleOf x) (rule-sound x fits))
 
   next-onward : onward t x .ledger .nextId ≡ countOf (planAt t x) + t .ledger .nextId
   next-onward = rw onward-is (next-enact t (airlineOf x) (planAt t x))
@@ -140,12 +131,12 @@ RunFits = All AccountOperationFits
 
 -- what a run is to an airline, by operations of its own
 pub record ByOwn (a : Name) (t : Stage) (xs own : Run) : Type 0 where
-  pub answers : answersTo a (answersOf t xs) ≡ ownAnswers (ownPart a t) own
-  pub part : ownPart a (after t xs) ≡ ownRun (ownPart a t) own
-  pub draws : drawsBy a (drawsOf t xs) ≡ ownDraws (ownPart a t) own
+  pub answers : ownAnswers a (answersOf t xs) ≡ plannedAnswers (ownPart a t) own
+  pub part : ownPart a (after t xs) ≡ plannedPart (ownPart a t) own
+  pub draws : drawsBy a (drawsOf t xs) ≡ plannedDraws (ownPart a t) own
 
 pub by-own : (a : Name) (xs : Run) (t : Stage) → Orderly t → RunFits xs → runMeets t xs ≡ false → ByOwn a t xs (ownOperations a xs)
-unfolding answersTo answersOf drawsBy drawsOf ownOperations keep after ownAnswers ownRun ownDraws runMeets
+unfolding ownAnswers answersOf drawsBy drawsOf ownOperations keep after plannedAnswers plannedPart plannedDraws runMeets
 by-own a [] t orderly fits clear = record { answers = refl; part = refl; draws = refl }
 by-own a (x ∷ xs) t orderly (f, fs) clear =
     let (c, cs) = or-false (meets t x) (runMeets (onward t x) xs) clear in
@@ -154,15 +145,15 @@ by-own a (x ∷ xs) t orderly (f, fs) clear =
     (λ _ e. let mine : airlineOf x ≡ a = sym (same-true a (airlineOf x) e) in
     let q : ownPart a (onward t x) ≡ ownAfter (ownPart a t) (planOf x (ownPart a t)) = part-own t orderly x f c a mine in
     record {
-      answers = rw e (ap₂ _∷_ (ap (answerTo (airlineOf x)) (says-own t orderly x f c a mine)) (later .answers ∙ ap (λ o. ownAnswers o (ownOperations a xs)) q));
-      part = later .part ∙ ap (λ o. ownRun o (ownOperations a xs)) q;
-      draws = rw e (ap₂ _∷_ (ap (λ n. draw (airlineOf x) (countOf (planOf x (ownPart n t)))) mine) (later .draws ∙ ap (λ o. ownDraws o (ownOperations a xs)) q));
+      answers = rw e (ap₂ _∷_ (ap (answerTo (airlineOf x)) (says-own t orderly x f c a mine)) (later .answers ∙ ap (λ o. plannedAnswers o (ownOperations a xs)) q));
+      part = later .part ∙ ap (λ o. plannedPart o (ownOperations a xs)) q;
+      draws = rw e (ap₂ _∷_ (ap (λ n. draw (airlineOf x) (countOf (planOf x (ownPart n t)))) mine) (later .draws ∙ ap (λ o. plannedDraws o (ownOperations a xs)) q));
     })
     (λ _ e. let q : ownPart a (onward t x) ≡ ownPart a t = part-other t orderly x f c a e in
     record {
-      answers = rw e (later .answers ∙ ap (λ o. ownAnswers o (ownOperations a xs)) q);
-      part = later .part ∙ ap (λ o. ownRun o (ownOperations a xs)) q;
-      draws = rw e (later .draws ∙ ap (λ o. ownDraws o (ownOperations a xs)) q);
+      answers = rw e (later .answers ∙ ap (λ o. plannedAnswers o (ownOperations a xs)) q);
+      part = later .part ∙ ap (λ o. plannedPart o (ownOperations a xs)) q;
+      draws = rw e (later .draws ∙ ap (λ o. plannedDraws o (ownOperations a xs)) q);
     }) refl
 
 -- the stage that a run comes to

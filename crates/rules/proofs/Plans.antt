@@ -5,14 +5,14 @@ use mathlib.Core.Path.{_≡_, refl, sym, _∙_, ap, subst}
 use mathlib.Core.Bool.{Bool, true, false, not, cond, _&&_, _||_}
 use mathlib.Core.List.{List, [], _∷_, _++_}
 use mathlib.Core.Option.{Option, none, some}
-use Prim.Native.Nat.{ℕ, suc}
+use Prim.Native.Nat.{ℕ, zero, suc, _+_}
 use lib.Dec.{ltb, eqb}
-use lib.IntN.{ℤ, pos}
+use lib.IntN.{ℤ, pos, negsuc}
 use lib.ListN.{length}
-use Rattle.rules.specs.RoomAndSoundLedger.{Name, Account, Seat, Booking, Ledger, withPlaces, withBookings, seatIn}
+use Rattle.rules.specs.RoomAndSoundLedger.{Name, Account, Seat, Booking, Ledger, withPlaces, withBookings, seatIn, M}
 use Rattle.rules.specs.AnswerNumbers.{Value, Amount, Identifier, Reply, done, Refusal, NegativeAmount, InvalidAmount, MissingTenant, OverflowOfReserve, OverflowOfCommit, OverflowOfTopUp, ExposureLimitExceeded, Insufficient, MissingReservation, Overrun, AllocatorExhausted, ActiveReservations, DuplicateTenant, GhostReservation, NegativeLedgerField, ConservationViolation, AggregateOverflow, AlreadyRecoveryAware, InvalidAllocatorFence, LegacySnapshotRequiresMigration, NameTooLong, NamesFull, ReservationsFull, OutputTooShort, BadFrame, UnsoundLedger, replyOf, Outcome}
-use Rattle.rules.specs.AccountRules.{Move, refuse, tell, write, lose, book, Settlement, leave, end, ensureRule, topUpRule, limitRule, Checked, stopped, passed, reserveChecks, reserveRule, commitRule, commitOfNone, releaseRule, readRule, readReservedRule, seated, hasRoom, booked, ended, drawn, doneWith, perform, settle, AccountOperation, ensure, topUp, limit, reserve, commit, release, readRemaining, readInitial, readCommitted, readReserved, isTooLong, named, onName, onBooking, nextIdIsM, operate}
-use Rattle.rules.specs.OrderBetweenAirlines.{Which, grant, Reference, reference, airlineOf, Note, note, idOf, grantsOf, Stage, stage, withId, idIn, grantedId, withGrant, outcomeAt, passesChecks, meetsEndOfIds, meets}
+use Rattle.rules.specs.AccountRules.{Move, refuse, tell, write, lose, book, Settlement, leave, end, reserveRule, seated, hasRoom, booked, ended, drawn, doneWith, perform, settle, AccountOperation, ensure, topUp, limit, reserve, commit, release, readRemaining, readInitial, readCommitted, readReserved, isTooLong, named, onName, onBooking, nextIdIsM, forReservation, Rule, ruleOf, apply, forName}
+use Rattle.rules.specs.OrderBetweenAirlines.{Which, grant, Reference, reference, airlineOf, Note, note, idOf, grantsOf, Stage, stage, outcomeAt, identifierIn, grantedId, withGrant, meetsEndOfIds, meets, isAnswer, draws, withIdFrom, wouldDraw, airlineBy}
 use Rattle.rules.proofs.Tests.{by-test, by-bool, true-false, or-false}
 use Rattle.rules.proofs.Bookings.{booked-id}
 
@@ -53,28 +53,22 @@ ofMove (write zs s) = writes (doneWith zs) s
 ofMove (lose e) = loses (replyOf e)
 ofMove (book remaining s cost) = books remaining s cost
 
-abbrev pub ofSettlement : Which → Settlement → Plan
-ofSettlement w (leave e) = stays (replyOf e)
-ofSettlement w (end zs s) = ends (doneWith zs) s w
+abbrev pub ofSettlement : Which → Option ℕ → Settlement → Plan
+ofSettlement w live (leave e) = stays (replyOf e)
+ofSettlement w none (end zs s) = stays (replyOf MissingReservation)
+ofSettlement w (some amount) (end zs s) = ends (doneWith zs) s w
 
-abbrev pub byName : Name → (Option Account → ℕ → Move) → OwnPart → Plan
-byName a rule o = ofMove (named a (rule (o .seat .account) (o .seat .limit)))
+-- what a rule decides for a reservation, from the amount that is live and its airline's seat
+abbrev pub decided : Option ℕ → (Option ℕ → Option Account → ℕ → Settlement) → Seat → Settlement
+decided none rule s = rule none none 0
+decided (some amount) rule s = rule (some amount) (s .account) (s .limit)
 
-abbrev pub byReservation : Which → Option ℕ → Refusal → (ℕ → Option Account → ℕ → Settlement) → Seat → Plan
-byReservation w none missing rule s = stays (replyOf missing)
-byReservation w (some amount) missing rule s = ofSettlement w (rule amount (s .account) (s .limit))
+abbrev pub planBy : Rule Reference → OwnPart → Plan
+planBy (forName a rule) o = ofMove (named a (rule false (o .seat .account) (o .seat .limit)))
+planBy (forReservation k rule) o = ofSettlement (k .which) (o .live (k .which)) (decided (o .live (k .which)) rule (o .seat))
 
 unfoldable pub planOf : AccountOperation Reference → OwnPart → Plan
-planOf (ensure a z) o = byName a (ensureRule z) o
-planOf (topUp a z) o = byName a (topUpRule z) o
-planOf (limit a z) o = byName a (limitRule z) o
-planOf (reserve a z) o = byName a (λ c l. reserveRule false l (reserveChecks z c l)) o
-planOf (commit k z) o = byReservation (k .which) (o .live (k .which)) (commitOfNone z) (commitRule z) (o .seat)
-planOf (release k) o = byReservation (k .which) (o .live (k .which)) MissingReservation releaseRule (o .seat)
-planOf (readRemaining a) o = byName a (readRule (λ c. c .remaining)) o
-planOf (readInitial a) o = byName a (readRule (λ c. c .initial)) o
-planOf (readCommitted a) o = byName a (readRule (λ c. c .committed)) o
-planOf (readReserved a) o = byName a readReservedRule o
+planOf x o = planBy (ruleOf x) o
 
 -- ── a plan enacted at a stage ──────────────────────────────────────────────────────────────────
 
@@ -113,7 +107,7 @@ pub record Enacts (t : Stage) (a : Name) (o : Outcome) (p : Plan) : Type 0 where
 
 -- no refusal of the table carries an id
 refused-grants-nothing : (e : Refusal) → grantedId (replyOf e .carried) ≡ none
-unfolding grantedId idIn
+unfolding grantedId identifierIn
 refused-grants-nothing (NegativeAmount value) = refl
 refused-grants-nothing InvalidAmount = refl
 refused-grants-nothing MissingTenant = refl
@@ -142,7 +136,7 @@ refused-grants-nothing BadFrame = refl
 refused-grants-nothing UnsoundLedger = refl
 
 amounts-grant-nothing : (zs : List ℤ) → grantedId (doneWith zs .carried) ≡ none
-unfolding grantedId idIn
+unfolding grantedId identifierIn
 amounts-grant-nothing [] = refl
 amounts-grant-nothing (z ∷ zs) = amounts-grant-nothing zs
 
@@ -150,74 +144,109 @@ amounts-grant-nothing (z ∷ zs) = amounts-grant-nothing zs
 unnoted : (a : Name) (ns : List Note) (L : Ledger) (vs : List Value) → grantedId vs ≡ none → stage L (withGrant a ns (grantedId vs)) ≡ stage L ns
 unnoted a ns L vs e = ap (λ g. stage L (withGrant a ns g)) e
 
-performs : (t : Stage) (a : Name) (m : Move) → eqb (perform (t .ledger) a m .reply .number) 20 ≡ false → eqb (perform (t .ledger) a m .reply .number) 21 ≡ false
+performs : (t : Stage) (a : Name) (m : Move) → isAnswer NamesFull (perform (t .ledger) a m) ≡ false → isAnswer ReservationsFull (perform (t .ledger) a m) ≡ false
     → Enacts t a (perform (t .ledger) a m) (ofMove m)
 unfolding perform says enact
 performs t a (refuse e) h k = record { reply = refl; stage = unnoted a (t .notes) _ _ (refused-grants-nothing e) }
 performs t a (tell zs) h k = record { reply = refl; stage = unnoted a (t .notes) _ _ (amounts-grant-nothing zs) }
-performs t a (write zs s) h k = by-test (λ (o : Outcome). eqb (o .reply .number) 20 ≡ false → Enacts t a o (writes (doneWith zs) s)) (hasRoom a s (t .ledger))
+performs t a (write zs s) h k = by-test (λ (o : Outcome). isAnswer NamesFull o ≡ false → Enacts t a o (writes (doneWith zs) s)) (hasRoom a s (t .ledger))
     (λ _ f. record { reply = refl; stage = unnoted a (t .notes) _ _ (amounts-grant-nothing zs) }) (λ _ f. true-false refl f) h
 performs t a (lose e) h k = record { reply = refl; stage = unnoted a (t .notes) _ _ (refused-grants-nothing e) }
-performs t a (book remaining s cost) h k = by-test (λ (o : Outcome). eqb (o .reply .number) 21 ≡ false → Enacts t a o (books remaining s cost)) (ltb (length (t .ledger .bookings)) (t .ledger .R))
-    (λ _ f. record { reply = refl; stage = unfold grantedId idIn in refl }) (λ _ f. true-false refl f) k
+performs t a (book remaining s cost) h k = by-test (λ (o : Outcome). isAnswer ReservationsFull o ≡ false → Enacts t a o (books remaining s cost)) (ltb (length (t .ledger .bookings)) (t .ledger .R))
+    (λ _ f. record { reply = refl; stage = unfold grantedId identifierIn in refl }) (λ _ f. true-false refl f) k
 
 -- a settlement of a reference whose reservation is its airline's
-pub settles : (t : Stage) (k : Reference) (missing : Refusal) (rule : ℕ → Option Account → ℕ → Settlement)
-    → ((b : Booking) → bookingOf k t ≡ some b → b .name ≡ k .airline)
-    → Enacts t (k .airline) (onBooking (t .ledger) (bookingOf k t) missing rule) (byReservation (k .which) (amountOf (bookingOf k t)) missing rule (seatIn (k .airline) (t .ledger .places)))
-unfolding bookingOf settle says enact onBooking
-settles t k missing rule mine = go (bookingOf k t) refl
+settles : (t : Stage) (k : Reference) (rule : Option ℕ → Option Account → ℕ → Settlement) → ((b : Booking) → bookingOf k t ≡ some b → b .name ≡ k .airline)
+    → Enacts t (k .airline) (onBooking (t .ledger) (bookingOf k t) rule) (planBy (forReservation k rule) (ownPart (k .airline) t))
+unfolding bookingOf settle says enact onBooking ownPart
+settles t k rule mine = go (bookingOf k t) refl
   where
-    decides : (b : Booking) → b .name ≡ k .airline → b .id ≡ idOf k (t .notes) → (x : Settlement) → Enacts t (k .airline) (settle (t .ledger) b x) (ofSettlement (k .which) x)
-    decides b p q (leave e) = record { reply = refl; stage = unnoted (k .airline) (t .notes) _ _ (refused-grants-nothing e) }
-    decides b p q (end zs s) = record { reply = refl; stage = unnoted (k .airline) (t .notes) _ _ (amounts-grant-nothing zs) ∙ (λ i. stage (withBookings (withPlaces (t .ledger) (seated (p i) s (t .ledger .places))) (ended (q i) (t .ledger .bookings))) (t .notes)) }
+    own : Seat
+    own = seatIn (k .airline) (t .ledger .places)
 
-    go : (o : Option Booking) → bookingOf k t ≡ o → Enacts t (k .airline) (onBooking (t .ledger) o missing rule) (byReservation (k .which) (amountOf o) missing rule (seatIn (k .airline) (t .ledger .places)))
-    go none e = record { reply = refl; stage = unnoted (k .airline) (t .notes) _ _ (refused-grants-nothing missing) }
+    decides-none : (x : Settlement) → Enacts t (k .airline) (settle (t .ledger) none x) (ofSettlement (k .which) none x)
+    decides-none (leave e) = record { reply = refl; stage = unnoted (k .airline) (t .notes) _ _ (refused-grants-nothing e) }
+    decides-none (end zs s) = record { reply = refl; stage = unnoted (k .airline) (t .notes) _ _ (refused-grants-nothing MissingReservation) }
+
+    decides : (b : Booking) → b .name ≡ k .airline → b .id ≡ idOf k (t .notes) → (x : Settlement) → Enacts t (k .airline) (settle (t .ledger) (some b) x) (ofSettlement (k .which) (some (b .amount)) x)
+    decides b p q (leave e) = record { reply = refl; stage = unnoted (k .airline) (t .notes) _ _ (refused-grants-nothing e) }
+    decides b p q (end zs s) = record {
+      reply = refl;
+      stage = unnoted (k .airline) (t .notes) _ _ (amounts-grant-nothing zs)
+          ∙ (λ i. stage (withBookings (withPlaces (t .ledger) (seated (p i) s (t .ledger .places))) (ended (q i) (t .ledger .bookings))) (t .notes));
+    }
+
+    go : (o : Option Booking) → bookingOf k t ≡ o → Enacts t (k .airline) (onBooking (t .ledger) o rule) (ofSettlement (k .which) (amountOf o) (decided (amountOf o) rule own))
+    go none e = decides-none (rule none none 0)
     go (some b) e =
         let p : b .name ≡ k .airline = mine b e in
-        let s : Seat = seatIn (k .airline) (t .ledger .places) in
-        subst (λ a. Enacts t (k .airline) (settle (t .ledger) b (rule (b .amount) (seatIn a (t .ledger .places) .account) (seatIn a (t .ledger .places) .limit))) (ofSettlement (k .which) (rule (b .amount) (s .account) (s .limit))))
+        let x : Settlement = rule (some (b .amount)) (own .account) (own .limit) in
+        subst (λ a. Enacts t (k .airline) (settle (t .ledger) (some b) (rule (some (b .amount)) (seatIn a (t .ledger .places) .account) (seatIn a (t .ledger .places) .limit))) (ofSettlement (k .which) (some (b .amount)) x))
         (sym p)
-        (decides b p (booked-id (idOf k (t .notes)) (t .ledger .bookings) b e) (rule (b .amount) (s .account) (s .limit)))
+        (decides b p (booked-id (idOf k (t .notes)) (t .ledger .bookings) b e) x)
 
--- where a reserve does not meet the end of the ids, it does not see how far they are
-pub before-the-end : (a : Name) (last : Bool) (l : ℕ) (c : Checked) → not (isTooLong a) && passesChecks c && last ≡ false → named a (reserveRule last l c) ≡ named a (reserveRule false l c)
+-- where an operation does not meet the end of the ids, it does not see how far they are: only a rule that would draw an id asks for it
+abbrev AsksLast : Rule Reference → Type 0
+AsksLast (forName a rule) = (last : Bool) (c : Option Account) (l : ℕ) → draws (rule false c l) && last ≡ false → rule last c l ≡ rule false c l
+AsksLast (forReservation k rule) = Unit {0}
+
+-- a check before the one of the next id
+past-check : (b : Bool) (r x y : Move) → (draws y && true ≡ false → x ≡ y) → draws (cond b r y) && true ≡ false → cond b r x ≡ cond b r y
+past-check true r x y f h = refl
+past-check false r x y f h = f h
+
+drawn-anyway : {A : Type 0} (b : Bool) (e : Refusal) (remaining : ℕ) (s : Seat) (cost : ℕ) → draws (cond b (lose e) (book remaining s cost)) && true ≡ false → A
+drawn-anyway true e remaining s cost h = true-false refl h
+drawn-anyway false e remaining s cost h = true-false refl h
+
+reserve-asks : (z : ℤ) (last : Bool) (c : Option Account) (l : ℕ) → draws (reserveRule z false c l) && last ≡ false → reserveRule z last c l ≡ reserveRule z false c l
 unfolding reserveRule
-before-the-end a last l c = by-bool (λ b. not b && passesChecks c && last ≡ false → cond b (refuse NameTooLong) (reserveRule last l c) ≡ cond b (refuse NameTooLong) (reserveRule false l c)) (isTooLong a) (λ _ e. refl) (λ _ e. go last c e)
-  where
-    go : (last : Bool) (c : Checked) → passesChecks c && last ≡ false → reserveRule last l c ≡ reserveRule false l c
-    go last (stopped e) h = refl
-    go true (passed c cost) h = true-false refl h
-    go false (passed c cost) h = refl
+reserve-asks z false c l h = refl
+reserve-asks (negsuc n) true c l h = refl
+reserve-asks (pos zero) true c l h = refl
+reserve-asks (pos (suc n)) true none l h = refl
+reserve-asks (pos (suc n)) true (some c) l h = past-check (ltb M (c .reserved + suc n)) _ _ _ (past-check (ltb 0 l && ltb l (c .reserved + suc n)) _ _ _ (drawn-anyway (ltb (c .remaining) (suc n)) _ _ _ _)) h
+
+asks-last : (x : AccountOperation Reference) → AsksLast (ruleOf x)
+asks-last (ensure a z) = λ last c l h. refl
+asks-last (topUp a z) = λ last c l h. refl
+asks-last (limit a z) = λ last c l h. refl
+asks-last (reserve a z) = reserve-asks z
+asks-last (commit k z) = tt
+asks-last (release k) = tt
+asks-last (readRemaining a) = λ last c l h. refl
+asks-last (readInitial a) = λ last c l h. refl
+asks-last (readCommitted a) = λ last c l h. refl
+asks-last (readReserved a) = λ last c l h. refl
+
+before-the-end : (a : Name) (last : Bool) (m n : Move) → (draws n && last ≡ false → m ≡ n) → draws (named a n) && last ≡ false → named a m ≡ named a n
+before-the-end a last m n f = by-bool (λ b. draws (cond b (refuse NameTooLong) n) && last ≡ false → cond b (refuse NameTooLong) m ≡ cond b (refuse NameTooLong) n) (isTooLong a) (λ _ h. refl) (λ _ h. f h)
 
 -- the three that an operation does not meet
 pub record MeetsNone (t : Stage) (x : AccountOperation Reference) : Type 0 where
-  pub names-full : eqb (outcomeAt t x .reply .number) 20 ≡ false
-  pub reservations-full : eqb (outcomeAt t x .reply .number) 21 ≡ false
+  pub names-full : isAnswer NamesFull (outcomeAt t x) ≡ false
+  pub reservations-full : isAnswer ReservationsFull (outcomeAt t x) ≡ false
   pub end-of-ids : meetsEndOfIds (t .ledger) x ≡ false
 
 pub meets-none : (t : Stage) (x : AccountOperation Reference) → meets t x ≡ false → MeetsNone t x
 unfolding meets
 meets-none t x h =
-    let (p, q) = or-false (eqb (outcomeAt t x .reply .number) 20 || eqb (outcomeAt t x .reply .number) 21) (meetsEndOfIds (t .ledger) x) h in
-    let (r, s) = or-false (eqb (outcomeAt t x .reply .number) 20) (eqb (outcomeAt t x .reply .number) 21) p in
+    let (p, q) = or-false (isAnswer NamesFull (outcomeAt t x) || isAnswer ReservationsFull (outcomeAt t x)) (meetsEndOfIds (t .ledger) x) h in
+    let (r, s) = or-false (isAnswer NamesFull (outcomeAt t x)) (isAnswer ReservationsFull (outcomeAt t x)) p in
     record { names-full = r; reservations-full = s; end-of-ids = q }
 
-pub enacts-its-plan : (t : Stage) (x : AccountOperation Reference) → ((k : Reference) (b : Booking) → bookingOf k t ≡ some b → b .name ≡ k .airline) → MeetsNone t x
-    → Enacts t (airlineOf x) (outcomeAt t x) (planOf x (ownPart (airlineOf x) t))
-unfolding outcomeAt withId operate onName airlineOf planOf ownPart bookingOf meetsEndOfIds
-enacts-its-plan t (ensure a z) mine m = performs t a _ (m .names-full) (m .reservations-full)
-enacts-its-plan t (topUp a z) mine m = performs t a _ (m .names-full) (m .reservations-full)
-enacts-its-plan t (limit a z) mine m = performs t a _ (m .names-full) (m .reservations-full)
-enacts-its-plan t (reserve a z) mine m =
-    let s : Seat = seatIn a (t .ledger .places) in
-    subst (λ n. Enacts t a (outcomeAt t (reserve a z)) (ofMove n))
-    (before-the-end a (nextIdIsM (t .ledger)) (s .limit) (reserveChecks z (s .account) (s .limit)) (m .end-of-ids))
-    (performs t a _ (m .names-full) (m .reservations-full))
-enacts-its-plan t (commit k z) mine m = settles t k (commitOfNone z) (commitRule z) (mine k)
-enacts-its-plan t (release k) mine m = settles t k MissingReservation releaseRule (mine k)
-enacts-its-plan t (readRemaining a) mine m = performs t a _ (m .names-full) (m .reservations-full)
-enacts-its-plan t (readInitial a) mine m = performs t a _ (m .names-full) (m .reservations-full)
-enacts-its-plan t (readCommitted a) mine m = performs t a _ (m .names-full) (m .reservations-full)
-enacts-its-plan t (readReserved a) mine m = performs t a _ (m .names-full) (m .reservations-full)
+module _ (t : Stage) (mine : (k : Reference) (b : Booking) → bookingOf k t ≡ some b → b .name ≡ k .airline) where
+  enacts-rule : (r : Rule Reference) → AsksLast r → let o = apply (t .ledger) (withIdFrom (t .notes) r) in
+      isAnswer NamesFull o ≡ false → isAnswer ReservationsFull o ≡ false → wouldDraw (t .ledger) r && nextIdIsM (t .ledger) ≡ false → Enacts t (airlineBy r) o (planBy r (ownPart (airlineBy r) t))
+  unfolding onName ownPart bookingOf
+  enacts-rule (forName a rule) asks names reservations ids =
+      let s : Seat = seatIn a (t .ledger .places) in
+      let last : Bool = nextIdIsM (t .ledger) in
+      subst (λ m. Enacts t a (perform (t .ledger) a (named a (rule last (s .account) (s .limit)))) (ofMove m))
+      (before-the-end a last (rule last (s .account) (s .limit)) (rule false (s .account) (s .limit)) (asks last (s .account) (s .limit)) ids)
+      (performs t a _ names reservations)
+  enacts-rule (forReservation k rule) asks names reservations ids = settles t k rule (mine k)
+
+  pub enacts-its-plan : (x : AccountOperation Reference) → MeetsNone t x → Enacts t (airlineOf x) (outcomeAt t x) (planOf x (ownPart (airlineOf x) t))
+  unfolding outcomeAt airlineOf planOf meetsEndOfIds
+  enacts-its-plan x m = enacts-rule (ruleOf x) (asks-last x) (m .names-full) (m .reservations-full) (m .end-of-ids)

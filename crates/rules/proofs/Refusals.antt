@@ -11,7 +11,7 @@ use lib.IntN.{ℤ, pos, negsuc}
 use lib.ListN.{length}
 use Rattle.rules.specs.RoomAndSoundLedger.{M, Name, Account, Booking, Ledger, committedTotal, InRange}
 use Rattle.rules.specs.AnswerNumbers.{Reply, Refusal, NegativeAmount, InvalidAmount, MissingTenant, OverflowOfReserve, OverflowOfCommit, OverflowOfTopUp, ExposureLimitExceeded, Insufficient, MissingReservation, Overrun, AllocatorExhausted, ActiveReservations, DuplicateTenant, GhostReservation, NegativeLedgerField, ConservationViolation, AggregateOverflow, AlreadyRecoveryAware, InvalidAllocatorFence, LegacySnapshotRequiresMigration, NameTooLong, NamesFull, ReservationsFull, OutputTooShort, BadFrame, UnsoundLedger, replyOf, Outcome, sound, Answered, answered, onLent}
-use Rattle.rules.specs.AccountRules.{Move, refuse, tell, write, lose, book, Settlement, leave, end, ensureRule, topUpRule, limitRule, reserveChecks, reserveRule, commitRule, commitOfNone, releaseRule, readRule, readReservedRule, hasRoom, booked, drawn, perform, settle, AccountOperation, ensure, topUp, limit, reserve, commit, release, readRemaining, readInitial, readCommitted, readReserved, isTooLong, named, onName, onBooking, nextIdIsM, operate}
+use Rattle.rules.specs.AccountRules.{Move, refuse, tell, write, lose, book, Settlement, leave, end, ensureRule, topUpRule, limitRule, reserveRule, commitRule, releaseRule, readRule, readReservedRule, hasRoom, booked, drawn, perform, settle, AccountOperation, ensure, topUp, limit, reserve, commit, release, readRemaining, readInitial, readCommitted, readReserved, isTooLong, named, onName, onBooking, nextIdIsM, operate}
 use Rattle.rules.specs.SnapshotsMigrationCertificates.{afterSnapshot, snapshotOf, takingSnapshot, tooShortFor, snapshot, orElse, restore, recoveryRestore, replyOr, migrate, status, totalsFit, certificate, certificateOfSnapshot, certificateOfLedger, conservationProof}
 use Rattle.rules.specs.Frames.{Operation, onAccount, takeSnapshot, certifyLedger, proveConservation, restoreFrom, recoverFrom, judge, migrateTo, certify, answer, operationOfLine, answerToLine}
 use Rattle.rules.proofs.Tests.{by-test}
@@ -77,15 +77,16 @@ module _ (L : Ledger) where
   named-answers : (x : Operation) (a : Name) (m : Move) → Loses x m → Answers L x (asAnswered (perform L a (named a m)))
   named-answers x a m h = by-test (λ (m : Move). Answers L x (asAnswered (perform L a m))) (isTooLong a) (λ _. perform-answers x a (refuse NameTooLong) tt) (λ _. perform-answers x a m h)
 
-  settle-answers : (x : Operation) (b : Booking) (t : Settlement) → Answers L x (asAnswered (settle L b t))
+  settle-answers : (x : Operation) (o : Option Booking) (t : Settlement) → Answers L x (asAnswered (settle L o t))
   unfolding settle
-  settle-answers x b (leave e) = changed-nothing e refl refl
-  settle-answers x b (end zs s) = accepted refl
+  settle-answers x o (leave e) = changed-nothing e refl refl
+  settle-answers x none (end zs s) = changed-nothing MissingReservation refl refl
+  settle-answers x (some b) (end zs s) = accepted refl
 
-  on-booking-answers : (x : Operation) (o : Option Booking) (missing : Refusal) (rule : ℕ → Option Account → ℕ → Settlement) → Answers L x (asAnswered (onBooking L o missing rule))
+  on-booking-answers : (x : Operation) (o : Option Booking) (rule : Option ℕ → Option Account → ℕ → Settlement) → Answers L x (asAnswered (onBooking L o rule))
   unfolding onBooking
-  on-booking-answers x none missing rule = changed-nothing missing refl refl
-  on-booking-answers x (some b) missing rule = settle-answers x b _
+  on-booking-answers x none rule = settle-answers x none _
+  on-booking-answers x (some b) rule = settle-answers x (some b) _
 
   ensure-loses : (x : Operation) (z : ℤ) (c : Option Account) (l : ℕ) → Loses x (ensureRule z c l)
   unfolding ensureRule
@@ -115,14 +116,14 @@ module _ (L : Ledger) where
   read-reserved-loses x none l = tt
   read-reserved-loses x (some c) l = tt
 
-  reserve-loses : (a : Name) (z : ℤ) (last : Bool) (c : Option Account) (l : ℕ) → Loses (onAccount (reserve a z)) (reserveRule last l (reserveChecks z c l))
-  unfolding reserveChecks reserveRule
+  reserve-loses : (a : Name) (z : ℤ) (last : Bool) (c : Option Account) (l : ℕ) → Loses (onAccount (reserve a z)) (reserveRule z last c l)
+  unfolding reserveRule
   reserve-loses a (negsuc n) last c l = tt
   reserve-loses a (pos zero) last c l = tt
   reserve-loses a (pos (suc n)) last none l = tt
   reserve-loses a (pos (suc n)) last (some c) l =
-      by-test (λ k. Loses x (reserveRule last l k)) (ltb M (c .reserved + suc n)) (λ _. tt)
-      (λ _. by-test (λ k. Loses x (reserveRule last l k)) (ltb 0 l && ltb l (c .reserved + suc n)) (λ _. tt)
+      by-test (Loses x) (ltb M (c .reserved + suc n)) (λ _. tt)
+      (λ _. by-test (Loses x) (ltb 0 l && ltb l (c .reserved + suc n)) (λ _. tt)
       (λ _. by-test (Loses x) last (λ _. tt) (λ _. by-test (Loses x) (ltb (c .remaining) (suc n)) (λ _. (a, n, c .remaining, refl, refl)) (λ _. tt))))
     where
       x : Operation
@@ -134,8 +135,8 @@ module _ (L : Ledger) where
   account-answers (topUp a z) = named-answers _ a _ (top-up-loses _ z _ _)
   account-answers (limit a z) = named-answers _ a _ (limit-loses _ z _ _)
   account-answers (reserve a z) = named-answers _ a _ (reserve-loses a z _ _ _)
-  account-answers (commit i z) = on-booking-answers _ (booked i (L .bookings)) (commitOfNone z) (commitRule z)
-  account-answers (release i) = on-booking-answers _ (booked i (L .bookings)) MissingReservation releaseRule
+  account-answers (commit i z) = on-booking-answers _ (booked i (L .bookings)) (commitRule z)
+  account-answers (release i) = on-booking-answers _ (booked i (L .bookings)) releaseRule
   account-answers (readRemaining a) = named-answers _ a _ (read-loses _ _ _ _)
   account-answers (readInitial a) = named-answers _ a _ (read-loses _ _ _ _)
   account-answers (readCommitted a) = named-answers _ a _ (read-loses _ _ _ _)

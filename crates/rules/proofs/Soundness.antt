@@ -13,8 +13,8 @@ use lib.Signed.{ltZ}
 use lib.ListN.{length, length-append}
 use Rattle.rules.specs.Lists.{first, All}
 use Rattle.rules.specs.RoomAndSoundLedger.{M, longestName, Name, IsName, same, Account, Seat, seat, Place, hasNothing, isVacant, Booking, Ledger, isAt, seatOf, holdsPlace, seatIn, hasAccount, share, reservedFor, committedOf, committedTotal, Sound}
-use Rattle.rules.specs.AnswerNumbers.{Refusal, MissingReservation, Outcome}
-use Rattle.rules.specs.AccountRules.{Move, refuse, tell, write, lose, book, Settlement, leave, end, ensureRule, topUpRule, limitRule, Checked, stopped, passed, reserveChecks, reserveRule, commitRule, commitOfNone, releaseRule, readRule, readReservedRule, put, freed, seated, hasRoom, booked, ended, perform, settle, AccountOperation, ensure, topUp, limit, reserve, commit, release, readRemaining, readInitial, readCommitted, readReserved, isTooLong, named, onName, onBooking, nextIdIsM, operate}
+use Rattle.rules.specs.AnswerNumbers.{Outcome}
+use Rattle.rules.specs.AccountRules.{Move, refuse, tell, write, lose, book, Settlement, leave, end, ensureRule, topUpRule, limitRule, reserveRule, commitRule, releaseRule, readRule, readReservedRule, put, freed, seated, hasRoom, booked, ended, perform, settle, AccountOperation, ensure, topUp, limit, reserve, commit, release, readRemaining, readInitial, readCommitted, readReserved, isTooLong, named, onName, onBooking, nextIdIsM, operate, Rule, ruleOf, forReservation, apply, forName}
 use Rattle.rules.specs.Domain.{IsAmount, IsBytes, AccountOperationFits}
 use Rattle.rules.proofs.Tests.{by-test, by-bool, by-option}
 use Rattle.rules.proofs.Lists.{first-passes, first-all, all-map, all-keep, all-more, pairwise-keep, pairwise-more, length-keep, sum-more}
@@ -27,14 +27,14 @@ use Rattle.rules.proofs.SoundByName.{AccountSound, AccountsSound, Place
 -- ── what a rule may decide ─────────────────────────────────────────────────────────────────────
 
 -- `total` is the sum of the airline's live reservations, `c` its account, `last` says that next id is M
-abbrev MoveSound : (last : Bool) → (total : ℕ) → Option Account → Move → Type 0
+abbrev pub MoveSound : (last : Bool) → (total : ℕ) → Option Account → Move → Type 0
 MoveSound last total c (refuse e) = Unit {0}
 MoveSound last total c (tell zs) = Unit {0}
 MoveSound last total c (write zs s) = AccountSound total (s .account) × (committedOf (s .account) ≡ committedOf c) × (s .limit ≤ M)
 MoveSound last total c (lose e) = last ≡ false
 MoveSound last total c (book remaining s cost) = (last ≡ false) × AccountSound (total + cost) (s .account) × (committedOf (s .account) ≡ committedOf c) × (s .limit ≤ M) × (0 < cost) × (hasAccount c ≡ true)
 
-abbrev SettlementSound : (total : ℕ) → Option Account → (amount : ℕ) → Settlement → Type 0
+abbrev pub SettlementSound : (total : ℕ) → Option Account → (amount : ℕ) → Settlement → Type 0
 SettlementSound total c amount (leave e) = Unit {0}
 SettlementSound total c amount (end zs s) = AccountSound (total - amount) (s .account) × (committedOf c ≤ committedOf (s .account)) × (s .limit ≤ M) × (hasAccount c ≡ true)
 
@@ -57,25 +57,16 @@ module _ (last : Bool) (total : ℕ) (l : ℕ) (small : l ≤ M) where
   limit-sound (negsuc n) c f h = tt
   limit-sound (pos n) c f h = (h, refl, leb-true n M f)
 
-  -- what the checks of a reserve let pass
-  abbrev CheckedSound : Option Account → Checked → Type 0
-  CheckedSound c (stopped e) = Unit {0}
-  CheckedSound c (passed d cost) = (c ≡ some d) × (0 < cost) × AccountSound total (some d)
-
-  checks-sound : (z : ℤ) (c : Option Account) → AccountSound total c → CheckedSound c (reserveChecks z c l)
-  unfolding reserveChecks
-  checks-sound (negsuc n) c h = tt
-  checks-sound (pos zero) c h = tt
-  checks-sound (pos (suc n)) none h = tt
-  checks-sound (pos (suc n)) (some c) h = by-test (CheckedSound (some c)) (ltb M (c .reserved + suc n)) (λ e. tt)
-      (λ e. by-test (CheckedSound (some c)) (ltb 0 l && ltb l (c .reserved + suc n)) (λ e. tt) (λ e. (refl, omega arith, h)))
-
-  reserve-sound : (c : Option Account) (k : Checked) → CheckedSound c k → MoveSound last total c (reserveRule last l k)
+  reserve-sound : (z : ℤ) (c : Option Account) → AccountSound total c → MoveSound last total c (reserveRule z last c l)
   unfolding reserveRule
-  reserve-sound c (stopped e) h = tt
-  reserve-sound c (passed d cost) (q, p, (h, k, m)) = by-test (MoveSound last total c) last (λ t. tt)
-      (λ t. by-test (MoveSound last total c) (ltb (d .remaining) cost) (λ e. t)
-      (λ e. (t, (omega (arith, ltb-false (d .remaining) cost e), k, omega arith), sym (ap committedOf q), small, p, ap hasAccount q)))
+  reserve-sound (negsuc n) c h = tt
+  reserve-sound (pos zero) c h = tt
+  reserve-sound (pos (suc n)) none h = tt
+  reserve-sound (pos (suc n)) (some c) (h, k, m) = by-test (MoveSound last total (some c)) (ltb M (c .reserved + suc n)) (λ _. tt)
+      (λ _. by-test (MoveSound last total (some c)) (ltb 0 l && ltb l (c .reserved + suc n)) (λ _. tt)
+      (λ _. by-test (MoveSound last total (some c)) last (λ _. tt)
+      (λ t. by-test (MoveSound last total (some c)) (ltb (c .remaining) (suc n)) (λ _. t)
+      (λ e. (t, (omega (arith, ltb-false (c .remaining) (suc n) e), k, omega arith), refl, small, omega arith, refl)))))
 
   read-sound : (of : Account → ℕ) (c : Option Account) → MoveSound last total c (readRule of c l)
   unfolding readRule
@@ -88,7 +79,7 @@ module _ (last : Bool) (total : ℕ) (l : ℕ) (small : l ≤ M) where
   read-reserved-sound (some c) = tt
 
 module _ (total amount : ℕ) (l : ℕ) (small : l ≤ M) (part : amount ≤ total) where
-  commit-sound : (z : ℤ) (c : Option Account) → AccountSound total c → SettlementSound total c amount (commitRule z amount c l)
+  commit-sound : (z : ℤ) (c : Option Account) → AccountSound total c → SettlementSound total c amount (commitRule z (some amount) c l)
   unfolding commitRule
   commit-sound (negsuc n) c h = tt
   commit-sound (pos actual) none h = tt
@@ -98,10 +89,27 @@ module _ (total amount : ℕ) (l : ℕ) (small : l ≤ M) (part : amount ≤ tot
       let falls = remaining-falls (c .remaining) amount actual enough in
       ((omega (arith, falls), k, omega arith), omega arith, small, refl)))
 
-  release-sound : (c : Option Account) → AccountSound total c → SettlementSound total c amount (releaseRule amount c l)
+  release-sound : (c : Option Account) → AccountSound total c → SettlementSound total c amount (releaseRule (some amount) c l)
   unfolding releaseRule
   release-sound none h = tt
   release-sound (some c) (h, k, m) = ((omega arith, k, omega arith), omega arith, small, refl)
+
+-- what any rule decides keeps a ledger sound, whatever stands for a reservation
+abbrev pub RuleSound : {X : Type 0} → Rule X → Type 0
+RuleSound (forName a rule) = IsBytes a × ((last : Bool) (total l : ℕ) → l ≤ M → (c : Option Account) → AccountSound total c → MoveSound last total c (rule last c l))
+RuleSound (forReservation x rule) = (total amount l : ℕ) → l ≤ M → amount ≤ total → (c : Option Account) → AccountSound total c → SettlementSound total c amount (rule (some amount) c l)
+
+pub rule-sound : {X : Type 0} (x : AccountOperation X) → AccountOperationFits x → RuleSound (ruleOf x)
+rule-sound (ensure a z) (bytes, f) = (bytes, λ last total l small c h. ensure-sound last total l small z c f h)
+rule-sound (topUp a z) (bytes, f) = (bytes, λ last total l small c h. top-up-sound last total l small z c h)
+rule-sound (limit a z) (bytes, f) = (bytes, λ last total l small c h. limit-sound last total l small z c f h)
+rule-sound (reserve a z) (bytes, f) = (bytes, λ last total l small c h. reserve-sound last total l small z c h)
+rule-sound (commit x z) f = λ total amount l small part c h. commit-sound total amount l small part z c h
+rule-sound (release x) f = λ total amount l small part c h. release-sound total amount l small part c h
+rule-sound (readRemaining a) bytes = (bytes, λ last total l small c h. read-sound last total l small _ c)
+rule-sound (readInitial a) bytes = (bytes, λ last total l small c h. read-sound last total l small _ c)
+rule-sound (readCommitted a) bytes = (bytes, λ last total l small c h. read-sound last total l small _ c)
+rule-sound (readReserved a) bytes = (bytes, λ last total l small c h. read-reserved-sound last total l small c)
 
 -- ── a seat written ─────────────────────────────────────────────────────────────────────────────
 
@@ -249,7 +257,7 @@ module _ (L : Ledger) (sound : SoundByName L) where
   own-taken-out : (b : Booking) → booked (b .id) (L .bookings) ≡ some b → reservedFor (b .name) (ended (b .id) (L .bookings)) + b .amount ≡ reservedFor (b .name) (L .bookings)
   own-taken-out b f = rw (same-self (b .name)) at (taken-out (b .name) b f)
 
-  settle-sound : (b : Booking) → booked (b .id) (L .bookings) ≡ some b → (x : Settlement) → SettlementSound (reservedFor (b .name) (L .bookings)) (seatIn (b .name) (L .places) .account) (b .amount) x → SoundByName (settle L b x .ledger)
+  settle-sound : (b : Booking) → booked (b .id) (L .bookings) ≡ some b → (x : Settlement) → SettlementSound (reservedFor (b .name) (L .bookings)) (seatIn (b .name) (L .places) .account) (b .amount) x → SoundByName (settle L (some b) x .ledger)
   unfolding settle
   settle-sound b f (leave e) h = sound
   settle-sound b f (end zs s) (h, e, m, q) =
@@ -272,26 +280,25 @@ module _ (L : Ledger) (sound : SoundByName L) where
         baseline = (sound .baseline .0, omega (arith, sound .baseline .1, w .total));
       }
 
-  on-booking-sound : (i : ℕ) (missing : Refusal) (rule : ℕ → Option Account → ℕ → Settlement)
-      → ((total amount l : ℕ) → l ≤ M → amount ≤ total → (c : Option Account) → AccountSound total c → SettlementSound total c amount (rule amount c l))
-      → SoundByName (onBooking L (booked i (L .bookings)) missing rule .ledger)
+  settle-none-sound : (x : Settlement) → SoundByName (settle L none x .ledger)
+  unfolding settle
+  settle-none-sound (leave e) = sound
+  settle-none-sound (end zs s) = sound
+
+  on-booking-sound : (i : ℕ) (rule : Option ℕ → Option Account → ℕ → Settlement) → RuleSound (forReservation i rule) → SoundByName (onBooking L (booked i (L .bookings)) rule .ledger)
   unfolding onBooking
-  on-booking-sound i missing rule well = by-option (λ o. SoundByName (onBooking L o missing rule .ledger)) (booked i (L .bookings)) (λ _. sound)
+  on-booking-sound i rule well = by-option (λ o. SoundByName (onBooking L o rule .ledger)) (booked i (L .bookings)) (λ _. settle-none-sound _)
       (λ b e. let q : booked (b .id) (L .bookings) ≡ some b = ap (λ j. booked j (L .bookings)) (booked-id i (L .bookings) b e) ∙ e in
       settle-sound b q _ (well _ (b .amount) _ (limit-small (b .name)) (omega (arith, own-taken-out b q)) _ (sound .accounts (b .name))))
 
-  operate-keeps : (x : AccountOperation ℕ) → AccountOperationFits x → SoundByName (operate L x .ledger)
-  unfolding operate onName
-  operate-keeps (ensure a z) (bytes, f) = named-sound a bytes _ (ensure-sound (nextIdIsM L) _ _ (limit-small a) z _ f (sound .accounts a))
-  operate-keeps (topUp a z) (bytes, f) = named-sound a bytes _ (top-up-sound (nextIdIsM L) _ _ (limit-small a) z _ (sound .accounts a))
-  operate-keeps (limit a z) (bytes, f) = named-sound a bytes _ (limit-sound (nextIdIsM L) _ _ (limit-small a) z _ f (sound .accounts a))
-  operate-keeps (reserve a z) (bytes, f) = named-sound a bytes _ (reserve-sound (nextIdIsM L) _ _ (limit-small a) _ _ (checks-sound (nextIdIsM L) _ _ (limit-small a) z _ (sound .accounts a)))
-  operate-keeps (commit i z) f = on-booking-sound i (commitOfNone z) (commitRule z) (λ total amount l small part c h. commit-sound total amount l small part z c h)
-  operate-keeps (release i) f = on-booking-sound i MissingReservation releaseRule (λ total amount l small part c h. release-sound total amount l small part c h)
-  operate-keeps (readRemaining a) bytes = named-sound a bytes _ (read-sound (nextIdIsM L) _ _ (limit-small a) _ _)
-  operate-keeps (readInitial a) bytes = named-sound a bytes _ (read-sound (nextIdIsM L) _ _ (limit-small a) _ _)
-  operate-keeps (readCommitted a) bytes = named-sound a bytes _ (read-sound (nextIdIsM L) _ _ (limit-small a) _ _)
-  operate-keeps (readReserved a) bytes = named-sound a bytes _ (read-reserved-sound (nextIdIsM L) _ _ (limit-small a) _)
+  apply-keeps : (r : Rule ℕ) → RuleSound r → SoundByName (apply L r .ledger)
+  unfolding onName
+  apply-keeps (forName a rule) (bytes, well) = named-sound a bytes _ (well (nextIdIsM L) _ _ (limit-small a) _ (sound .accounts a))
+  apply-keeps (forReservation i rule) well = on-booking-sound i rule well
+
+pub apply-sound : (L : Ledger) → Sound L → (r : Rule ℕ) → RuleSound r → Sound (apply L r .ledger)
+apply-sound L sound r well = by-place _ (apply-keeps L (by-name L sound) r well)
 
 pub operate-sound : (L : Ledger) → Sound L → (x : AccountOperation ℕ) → AccountOperationFits x → Sound (operate L x .ledger)
-operate-sound L sound x fits = by-place _ (operate-keeps L (by-name L sound) x fits)
+unfolding operate
+operate-sound L sound x fits = apply-sound L sound (ruleOf x) (rule-sound x fits)

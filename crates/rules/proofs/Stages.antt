@@ -11,13 +11,13 @@ use lib.ListN.{length}
 use Rattle.rules.specs.Lists.{first, keep, All, Pairwise}
 use Rattle.rules.specs.RoomAndSoundLedger.{Name, Seat, Booking, Ledger, Sound}
 use Rattle.rules.specs.AccountRules.{booked, ended}
-use Rattle.rules.specs.OrderBetweenAirlines.{Which, liveAtStart, grant, Reference, reference, Note, isNoteOf, idNoted, idOf, isNoteFor, referenceNoted, referenceOf, isGrantOf, grantsOf, Stage, noteAtStart, start}
+use Rattle.rules.specs.OrderBetweenAirlines.{Which, liveAtStart, grant, Reference, reference, Note, isNoteOf, isNoteFor, idOf, referenceOf, isGrantOf, grantsOf, Stage, noteAtStart, start}
 use Rattle.rules.proofs.Tests.{by-test, by-option, none-some}
 use Rattle.rules.proofs.Lists.{first-all, all-map, all-both, all-keep, all-more}
 use Rattle.rules.proofs.Names.{same-self}
 use Rattle.rules.proofs.Bookings.{Below, IdBelow, booked-id, booked-all, booked-out-of-range}
 use Rattle.rules.proofs.Keys.{pairwise-map, all-images, all-sources, pairwise-images}
-use Rattle.rules.proofs.Notes.{reference-of-more, NotesApart, found-by-id, reference-of-found}
+use Rattle.rules.proofs.Notes.{idNoted, referenceNoted, reference-of-more, NotesApart, found-by-id, reference-of-found}
 use Rattle.rules.proofs.Plans.{bookingOf, Plan, stays, writes, loses, books, ends, newBooking, newNote, enact}
 
 -- the number of a grant; a reservation live at the start has none

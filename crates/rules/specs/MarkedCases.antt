@@ -79,9 +79,9 @@ markedCases =
 
 -- ── what the definitions say to the operations of a case ───────────────────────────────────────
 
-unfoldable pub answersTo : Answered → List Operation → Answered
-answersTo before [] = before
-answersTo before (x ∷ xs) = answersTo (answer (before .lent) x) xs
+unfoldable pub lastAnswer : Answered → List Operation → Answered
+lastAnswer before [] = before
+lastAnswer before (x ∷ xs) = lastAnswer (answer (before .lent) x) xs
 
 abbrev pub nextIdOf : Lent → ℕ
 nextIdOf unsound = 0
@@ -89,7 +89,7 @@ nextIdOf (sound L) = L .nextId
 
 unfoldable pub ran : Case → Case
 ran c =
-    let last : Answered = answersTo (answered (done []) (sound (fresh (c .T) (c .R)))) (c .operations) in
+    let last : Answered = lastAnswer (answered (done []) (sound (fresh (c .T) (c .R)))) (c .operations) in
     record { T = c .T; R = c .R; operations = c .operations; answer = last .reply; nextId = nextIdOf (last .lent) }
 
 -- ── the whole case of "Frames" ─────────────────────────────────────────────────────────────────

@@ -1,28 +1,27 @@
--- `moves::reserve` meets its contract: the checks up to the limit give an answer of `reserveChecks`, the last three one of `reserveRule`.
+-- `moves::reserve`: a lemma of Cases for each return, from what the tests on the way to it leave; the last three returns share what the checks up to
+-- the limit leave, said once as `passes`.
 use mathlib.Core.Path.{_≡_}
 use Prim.Native.Nat.{ℕ, _+_, _≤_}
 use native.Mathlib.Omega.{arith}
 use borrow.Author.Needs.{needs}
 use lib.IntN.{pos}
 use Rattle.rules.specs.RoomAndSoundLedger.{M}
-use Rattle.rules.specs.AccountRules.{reserveChecks, passed}
 use Rattle.numbers.proofs.Amounts.{sign-negative, sign-natural, above-sum, fits-sum}
-use Rattle.moves.specs.Moves.{accountOf}
-use Rattle.moves.proofs.Cases.{told, accountIn, Asked, AmountsAddUp, amounts-add-up, account-sound, checks-negative, checks-zero, checks-missing, checks-overflows, checks-exposed, checks-pass, reserve-stops, reserve-ids-used, reserve-insufficient, reserve-books}
+use Rattle.moves.proofs.Cases.{told, AmountsAddUp, amounts-add-up, account-sound, Asked, Passes, reserve-negative, reserve-zero, reserve-missing, reserve-overflows, reserve-exposed, reserve-ids-used, reserve-insufficient, reserve-books}
 use Rattle.moves.proofs.reserve.Statement.{statement}
 use Rattle.moves.proofs.reserve.Tie as tie
 
 returns : tie.Need-returns
-returns c = search (reserve-stops, checks-negative, sign-negative, told)
+returns c = search (reserve-negative, sign-negative, told)
 
 cost-is : (c : tie.After-known-told) → c .before .before .before .before .args .cost .0 ≡ pos (c .before .asked .given .0 .0)
 cost-is c = search (sign-natural, told)
 
 returns-2 : tie.Need-returns-2
-returns-2 c = (reserve-stops _ _ _ _ (checks-zero _ _ _ _ (cost-is (c .before)) (c .if1 .taken)), tt)
+returns-2 c = (reserve-zero _ _ _ _ _ (cost-is (c .before)) (c .if1 .taken), tt)
 
 returns-3 : tie.Need-returns-3
-returns-3 c = let positive = c .before .before in (reserve-stops _ _ _ _ (checks-missing _ _ _ (cost-is (positive .before)) (positive .if1 .left) (c .if2 .taken)), tt)
+returns-3 c = let positive = c .before .before in (reserve-missing _ _ _ _ (cost-is (positive .before)) (positive .if1 .left) (c .if2 .taken), tt)
 
 is-asked : (c : tie.Else2) → let a = c .before .before .before .before .before .before .before .args in Asked (a .seat) (a .cost .0) (c .before .before .before .before .asked .given .0 .0)
 is-asked c = record { amount = cost-is (c .before .before .before); positive = c .before .before .if1 .left; present = c .if2 .left }
@@ -31,7 +30,7 @@ adds-up : (c : tie.Else2) → AmountsAddUp (c .before .before .before .before .b
 adds-up c = amounts-add-up _ (c .before .before .before .before .before .before .before .pre) (c .if2 .left)
 
 returns-4 : tie.Need-returns-4
-returns-4 c = (reserve-stops _ _ _ _ (checks-overflows _ _ _ (is-asked (c .before .before .before)) (above-sum _ _ (told (c .before .before .plus .ensures) (c .enum-told2 .given .1)))), tt)
+returns-4 c = (reserve-overflows _ _ _ _ (is-asked (c .before .before .before)) (above-sum _ _ (told (c .before .before .plus .ensures) (c .enum-told2 .given .1))), tt)
 
 abbrev entry : tie.After-known-told2 → tie.Start
 entry c = c .before .before .before .before .before .before .before .before .before .before .before
@@ -47,19 +46,19 @@ returns-5 : tie.Need-returns-5
 returns-5 c =
     let summed = c .before .before in
     let sum = sum-is summed in
-    (reserve-stops _ _ _ _ (checks-exposed _ _ _ (is-asked (summed .before .before .before .before)) _ (sum .0) (sum .1) (told (c .before .exceeds .ensures) (c .if3 .taken))), tt)
+    (reserve-exposed _ _ _ _ (is-asked (summed .before .before .before .before)) _ (sum .0) (sum .1) (told (c .before .exceeds .ensures) (c .if3 .taken)), tt)
 
-passes : (c : tie.Else3) → let a = entry (c .before .before) .args in reserveChecks (a .cost .0) (accountOf (a .seat)) (a .seat .limit) ≡ passed (accountIn (a .seat)) (asked (c .before .before))
+passes : (c : tie.Else3) → let a = entry (c .before .before) .args in Passes (a .seat) (a .cost .0) (asked (c .before .before)) (c .before .before .before .reserved .given .0 .0)
 passes c =
     let summed = c .before .before in
     let sum = sum-is summed in
-    checks-pass _ _ _ (is-asked (summed .before .before .before .before)) _ (sum .0) (sum .1) (told (c .before .exceeds .ensures) (c .if3 .left))
+    record { asked = is-asked (summed .before .before .before .before); sum = sum .0; fits = sum .1; within = told (c .before .exceeds .ensures) (c .if3 .left) }
 
 returns-6 : tie.Need-returns-6
-returns-6 c = (reserve-ids-used _ _ _ _ _ (c .if4 .taken) (passes (c .before)), tt)
+returns-6 c = (reserve-ids-used _ _ _ _ _ (passes (c .before)) (c .if4 .taken), tt)
 
 returns-7 : tie.Need-returns-7
-returns-7 c = let ids = c .before .before in (reserve-insufficient _ _ _ _ _ (ids .if4 .left) (c .if5 .taken) (passes (ids .before)), tt)
+returns-7 c = let ids = c .before .before in (reserve-insufficient _ _ _ _ _ (passes (ids .before)) (ids .if4 .left) (c .if5 .taken), tt)
 
 returns-8 : tie.Need-returns-8
 returns-8 c =
@@ -67,7 +66,7 @@ returns-8 c =
     let summed = ids .before .before .before in
     let sum = sum-is summed in
     let h = adds-up (summed .before .before .before .before) in (
-      reserve-books _ _ _ _ _ (ids .if4 .left) (c .before .if5 .left) (passes (ids .before)) _ (sum .0),
+      reserve-books _ _ _ _ _ (passes (ids .before)) (ids .if4 .left) (c .before .if5 .left),
       account-sound _ _ _ _ _ (omega (arith, c .before .if5 .left)) (h .1) (entry summed .pre .limit),
     )
 

@@ -7,7 +7,7 @@ use borrow.Author.Needs.{needs}
 use lib.IntN.{ℤ}
 use Rattle.rules.specs.RoomAndSoundLedger.{M, Ledger}
 use Rattle.rules.specs.AnswerNumbers.{Amount, reply, InvalidAmount, MissingTenant, OverflowOfCommit, Overrun}
-use Rattle.rules.specs.AccountRules.{AccountOperation, commit, commitOfNone, commitRule, operate, onBooking, booked, doneWith}
+use Rattle.rules.specs.AccountRules.{AccountOperation, commit, commitRule, operate, onBooking, booked, doneWith}
 use Rattle.rules.specs.Domain.{IsAmount}
 use Rattle.moves.specs.Moves.{SeatSound, committingSettlement, CommittingSound}
 use Rattle.moves.specs.declared.Committing.{Committing}
@@ -80,7 +80,7 @@ place c = c .before .before .before .before .before
 abbrev start : tie.After-commit → tie.Start
 start c = c .before .before .before .before .before .before .before .before .before .before
 
-settles : (s : tie.Start) (L : Ledger) → operate L (operation s) ≡ onBooking L (booked (id s) (L .bookings)) (commitOfNone (actual s)) (commitRule (actual s))
+settles : (s : tie.Start) (L : Ledger) → operate L (operation s) ≡ onBooking L (booked (id s) (L .bookings)) (commitRule (actual s))
 unfolding operate
 settles s L = refl
 
@@ -92,14 +92,14 @@ told : (c : tie.After-commit) (r : Committing) → c .commit .result ≡ r → D
 told c r e L k =
     let s = start c in
     let due = c .before .before .due-at in
-    settled (room s) L k (operation s) (id s) (commitOfNone (actual s)) (commitRule (actual s)) (settles s L) (at (place c)) (found (place c) L k) (due .result) (due .ensures L k) _
+    settled (room s) L k (operation s) (id s) (commitRule (actual s)) (settles s L) (at (place c)) (found (place c) L k) (due .result) (due .ensures L k) _
     (sym (ap (committingSettlement (actual s)) e) ∙ c .commit .ensures .0) (commit-fits (actual s))
 
 returns : tie.Need-returns
 returns c L r =
     let s = c .before .before .before .before .before .before in
     let f = c .before .before .before .find-booking in
-    refuses (room s) L r (operation s) (id s) (commitOfNone (actual s)) (commitRule (actual s)) (settles s L) (gone (room s) L r (id s) (f .result) (f .ensures) (c .before .enum-told .given .1)) _ (c .missing-commit .ensures)
+    refuses (room s) L r (operation s) (id s) (commitRule (actual s)) (settles s L) (gone (room s) L r (id s) (f .result) (f .ensures) (c .before .enum-told .given .1)) _ (c .missing-commit .ensures .1) _ (c .missing-commit .ensures .2)
 
 -- ── the reservation stays ──────────────────────────────────────────────────────────────────────
 

@@ -71,7 +71,7 @@ place c = c .before .before .before .before .before
 abbrev start : tie.After-release → tie.Start
 start c = c .before .before .before .before .before .before .before .before .before .before
 
-settles : (s : tie.Start) (L : Ledger) → operate L (operation s) ≡ onBooking L (booked (id s) (L .bookings)) MissingReservation releaseRule
+settles : (s : tie.Start) (L : Ledger) → operate L (operation s) ≡ onBooking L (booked (id s) (L .bookings)) releaseRule
 unfolding operate
 settles s L = refl
 
@@ -86,14 +86,15 @@ told : (c : tie.After-release) (r : Releasing) → c .release .result ≡ r → 
 told c r e L k =
     let s = start c in
     let due = c .before .before .due-at in
-    settled (room s) L k (operation s) (id s) MissingReservation releaseRule (settles s L) (at (place c)) (found (place c) L k) (due .result) (due .ensures L k) _
+    settled (room s) L k (operation s) (id s) releaseRule (settles s L) (at (place c)) (found (place c) L k) (due .result) (due .ensures L k) _
     (sym (ap (releasingSettlement (due .result .amount)) e) ∙ c .release .ensures .0) (λ amount o l adds. release-fits amount o l)
 
 returns : tie.Need-returns
+unfolding releaseRule
 returns c L r =
     let s = c .before .before .before .before .before in
     let f = c .before .before .find-booking in
-    refuses (room s) L r (operation s) (id s) MissingReservation releaseRule (settles s L) (gone (room s) L r (id s) (f .result) (f .ensures) (c .enum-told .given .1)) _ refl
+    refuses (room s) L r (operation s) (id s) releaseRule (settles s L) (gone (room s) L r (id s) (f .result) (f .ensures) (c .enum-told .given .1)) MissingReservation refl _ refl
 
 returns-2 : tie.Need-returns-2
 returns-2 c L r =
