@@ -8,11 +8,10 @@ use Prim.Native.Nat.{ℕ}
 use Rattle.rules.specs.Lists.{All}
 use Rattle.rules.specs.RoomAndSoundLedger.{Ledger, IsByte}
 use Rattle.rules.specs.AnswerNumbers.{Reply, Outcome}
-use Rattle.rules.specs.SnapshotsMigrationCertificates.{Snapshot}
+use Rattle.rules.specs.SnapshotsMigrationCertificates.{Snapshot, outputAfter}
 use Rattle.room.specs.Room.{SoundRoom}
 use Rattle.soundness.specs.Facts.{Decides}
 use Rattle.soundness.proofs.SameBytes.{same-answer}
-use Rattle.snapshot_writer.specs.Output.{outputAfter}
 use Rattle.any_memory_snapshots.specs.Supplied.{AnswersSnapshot}
 
 -- of a restore; of what takes no bytes, `same-answer` of soundness says it

@@ -12,13 +12,13 @@ use lib.Dec.{eqb}
 use lib.ListN.{length}
 use Rattle.rules.specs.RoomAndSoundLedger.{M, Ledger, Sound}
 use Rattle.rules.specs.AnswerNumbers.{SnapshotBytes, Reply, Refusal, AllocatorExhausted, done, replyOf, Outcome}
-use Rattle.rules.specs.SnapshotsMigrationCertificates.{Snapshot, snapshotBytes, hasLongName, snapshotOf, takingSnapshot, tooShortFor, snapshot, _gives_else_, tagged, withVersion, replyOr, migrate}
+use Rattle.rules.specs.SnapshotsMigrationCertificates.{Snapshot, snapshotBytes, hasLongName, snapshotOf, takingSnapshot, tooShortFor, handedOut, snapshot, _gives_else_, tagged, withVersion, replyOr, migrate}
 use Rattle.rules.specs.Frames.{longestSnapshot}
 use Rattle.rules.proofs.Tests.{by-test, by-bool}
 use Rattle.rules.proofs.SnapshotBytes.{never-too-short}
 use Rattle.rules.proofs.EveryLine.{own-snapshot-has-room}
 use Rattle.rules.proofs.Refusals.{refusal-number}
-use Rattle.snapshot_writer.specs.Output.{handedOut, snapshotReply}
+use Rattle.snapshot_writer.specs.Output.{snapshotReply}
 use Rattle.snapshot_writer.specs.declared.Snapshotted.{Snapshotted}
 use Rattle.snapshot_writer.specs.declared.Snapshotted.the-variants as snapshotted
 use Rattle.snapshot_writer.proofs.Snapshotted.{enum}

@@ -11,8 +11,7 @@ use lib.ListN.{length, drop, length-append, take-append-drop}
 use Rattle.rules.specs.Lists.{All}
 use Rattle.rules.specs.RoomAndSoundLedger.{IsByte}
 use Rattle.rules.specs.AnswerNumbers.{Lent, sound, unsound}
-use Rattle.rules.specs.Frames.{Operation, lineFeed, answerLine, answerOr23, answerToLine, operationOfLine, answersToLines}
-use Rattle.rules.proofs.EveryLine.{lentAfter}
+use Rattle.rules.specs.Frames.{Operation, lineFeed, answerLine, answerOr23, answerToLine, operationOfLine, answersToLines, lentAfter}
 use Rattle.room.specs.Room.{SoundRoom}
 use Rattle.room.proofs.Decoding.{canonical}
 use Rattle.soundness.specs.Facts.{Decides}

@@ -9,8 +9,7 @@ use Rattle.rules.specs.RoomAndSoundLedger.{Ledger}
 use Rattle.rules.specs.AnswerNumbers.{Outcome, Lent, sound, unsound, onLent}
 use Rattle.rules.specs.AccountRules.{operate}
 use Rattle.rules.specs.SnapshotsMigrationCertificates.{snapshot, restore, recoveryRestore, certificateOfLedger, conservationProof}
-use Rattle.rules.specs.Frames.{Operation, onAccount, takeSnapshot, certifyLedger, proveConservation, restoreFrom, recoverFrom, judge, migrateTo, certify, longestSnapshot, answer, answerOr23, answerToLine, operationOfLine}
-use Rattle.rules.proofs.EveryLine.{lentAfter}
+use Rattle.rules.specs.Frames.{Operation, onAccount, takeSnapshot, certifyLedger, proveConservation, restoreFrom, recoverFrom, judge, migrateTo, certify, longestSnapshot, answer, answerOr23, answerToLine, operationOfLine, lentAfter}
 use Rattle.room.specs.Room.{SoundRoom}
 use Rattle.frames.specs.Answering.{IsLent, Known}
 use Rattle.lines.specs.Batching.{LineAnswered}

@@ -10,8 +10,8 @@ use lib.ListN.{length, take, drop, length-append, length-drop, drop-of-length-le
 use lib.Seq.{take-all, take-add, drop-at, drop-drop, length-take-le}
 use Rattle.rules.specs.Lists.{All}
 use Rattle.rules.specs.AnswerNumbers.{Lent, unsound}
-use Rattle.rules.specs.Frames.{Operation, lineFeed, answerLine, answerOr23, answerToLine, operationOfLine, answersToLines}
-use Rattle.rules.proofs.EveryLine.{lentAfter, answers-append}
+use Rattle.rules.specs.Frames.{Operation, lentAfter, lineFeed, answerLine, answerOr23, answerToLine, operationOfLine, answersToLines}
+use Rattle.rules.proofs.EveryLine.{answers-append}
 use Rattle.records.specs.Rows.{row, put}
 use Rattle.records.proofs.Rows.{two-halves}
 use Rattle.frames.specs.Answering.{IsLent}

@@ -7,8 +7,7 @@ use Prim.Native.Nat.{ℕ, _+_, _-_, _≤_, _<_}
 use lib.ListN.{length, getD, take, drop}
 use Rattle.rules.specs.Lists.{All}
 use Rattle.rules.specs.AnswerNumbers.{Lent, unsound}
-use Rattle.rules.specs.Frames.{Operation, lineFeed, answerLine, answerOr23, operationOfLine, answerToLine, answersToLines}
-use Rattle.rules.proofs.EveryLine.{lentAfter}
+use Rattle.rules.specs.Frames.{Operation, lentAfter, lineFeed, answerLine, answerOr23, operationOfLine, answerToLine, answersToLines}
 use Rattle.frames.specs.Answering.{IsLent, roomFor}
 use Rattle.lines.specs.declared.LineAnswer.{LineAnswer}
 use Rattle.lines.specs.declared.LineAnswer.the-variants as answer

@@ -6,12 +6,11 @@ use Prim.Native.Nat.{ℕ}
 use lib.ListN.{length, drop}
 use Rattle.rules.specs.AnswerNumbers.{Reply, Refusal, NegativeAmount, InvalidAmount, MissingTenant, OverflowOfReserve, OverflowOfCommit, OverflowOfTopUp, ExposureLimitExceeded, Insufficient, MissingReservation, Overrun, AllocatorExhausted, ActiveReservations, DuplicateTenant, GhostReservation, NegativeLedgerField, ConservationViolation, AggregateOverflow, AlreadyRecoveryAware, InvalidAllocatorFence, LegacySnapshotRequiresMigration, NameTooLong, NamesFull, ReservationsFull, OutputTooShort, BadFrame, UnsoundLedger, replyOf}
 use Rattle.rules.specs.RoomAndSoundLedger.{Name}
-use Rattle.rules.specs.SnapshotsMigrationCertificates.{andThen, replyOr}
+use Rattle.rules.specs.SnapshotsMigrationCertificates.{handedOut, outputAfter, andThen, replyOr}
 use Rattle.rules.proofs.Tests.{none-some}
 use Rattle.validation.specs.declared.Verdict.{Verdict}
 use Rattle.validation.specs.Judgement.{refusalOf}
 use Rattle.validation.proofs.Deciding.{NotDone, refuses}
-use Rattle.snapshot_writer.specs.Output.{handedOut, outputAfter}
 
 -- ── a verdict that is not `Done` refuses ───────────────────────────────────────────────────────
 

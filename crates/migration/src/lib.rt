@@ -7,10 +7,9 @@ ghost use mathlib.Core.Option.{none};
 ghost use Prim.Native.Nat.{_≤_};
 ghost use lib.ListN.{length, drop};
 ghost use Rattle.rules.specs.RoomAndSoundLedger.{M};
-ghost use Rattle.rules.specs.SnapshotsMigrationCertificates.{bytesOf, replyOr, migrate};
+ghost use Rattle.rules.specs.SnapshotsMigrationCertificates.{bytesOf, replyOr, migrate, outputAfter};
 ghost use Rattle.snapshot_reader.specs.Standing.{IsSnapshot, OfSnapshot};
 ghost use Rattle.validation.specs.Judgement.{refusalIn};
-ghost use Rattle.snapshot_writer.specs.Output.{outputAfter};
 ghost use Rattle.migration.specs.Migrated.{migratedTo, migratedReply};
 
 const M: u64 = 9223372036854775807;

@@ -12,7 +12,7 @@ use Rattle.rules.specs.Lists.{All}
 use Rattle.rules.specs.RoomAndSoundLedger.{mostNames, mostReservations, Ledger, Sound, fresh}
 use Rattle.rules.specs.AnswerNumbers.{BadFrame, replyOf, Lent, sound, LentSound, answered}
 use Rattle.rules.specs.SnapshotsMigrationCertificates.{snapshotOf, tooShortFor}
-use Rattle.rules.specs.Frames.{longestSnapshot, replyBytes, characterOf, lineOfBytes, answerLine, longestLine, operationOfLine, answerOr23, answerToLine, lineFeed, pieces, counted, linesOf, answersToLines}
+use Rattle.rules.specs.Frames.{longestSnapshot, replyBytes, characterOf, lineOfBytes, answerLine, longestLine, operationOfLine, answerOr23, answerToLine, lentAfter, lineFeed, pieces, counted, linesOf, answersToLines}
 use Rattle.rules.proofs.Tests.{by-test, by-option}
 use Rattle.rules.proofs.SnapshotSoundness.{answer-sound, fresh-sound}
 use Rattle.rules.proofs.OwnSnapshot.{rows-length, own-names-short}
@@ -22,11 +22,6 @@ use Rattle.rules.proofs.FrameBytes.{line-fits}
 pub line-sound : (l : Lent) → LentSound l → (line : List ℕ) → LentSound (answerToLine l line .lent)
 unfolding answerToLine
 line-sound l known line = by-option (λ o. LentSound (answerOr23 l o .lent)) (operationOfLine line) (λ _. known) (λ x e. answer-sound l known x (line-fits line x e))
-
--- what is lent after some lines
-unfoldable pub lentAfter : Lent → List (List ℕ) → Lent
-lentAfter l [] = l
-lentAfter l (line ∷ lines) = lentAfter (answerToLine l line .lent) lines
 
 pub lines-sound : (l : Lent) → LentSound l → (lines : List (List ℕ)) → LentSound (lentAfter l lines)
 unfolding lentAfter

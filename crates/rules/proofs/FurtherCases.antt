@@ -1,16 +1,16 @@
 -- Cases beyond the marked ones, by computation: each answer number that those leave out, the easy slips, and damaged lines.
 use mathlib.Core.Path.{_≡_, refl}
-use mathlib.Core.Bool.{true, false}
-use mathlib.Core.Option.{none, some}
+use mathlib.Core.Bool.{Bool, true, false}
+use mathlib.Core.Option.{Option, none, some}
 use mathlib.Core.List.{List, [], _∷_, _++_, map, flatMap}
 use Prim.Native.Nat.{ℕ, _+_, _^_, Ordering·lt, Ordering·gt}
 use Prim.Native.String.{String}
 use lib.IntN.{ℤ, pos, negsuc}
 use lib.ListN.{replicate}
 use Rattle.rules.specs.Lists.{first, any, keep, sum}
-use Rattle.rules.specs.RoomAndSoundLedger.{M, mostNames, mostReservations, Name, order, same, holdsPlace, seatIn, committedTotal, fresh, made}
-use Rattle.rules.specs.AnswerNumbers.{Amount, Version, Count, YesOrNo, SnapshotBytes, Reply, done, NegativeAmount, InvalidAmount, MissingTenant, MissingReservation, ActiveReservations, DuplicateTenant, GhostReservation, NegativeLedgerField, ConservationViolation, AggregateOverflow, AlreadyRecoveryAware, InvalidAllocatorFence, LegacySnapshotRequiresMigration, NameTooLong, NamesFull, ReservationsFull, replyOf, Lent, sound, unsound, answered, onLent, makingReply}
-use Rattle.rules.specs.AccountRules.{ensureRule, topUpRule, limitRule, reserveRule, commitRule, releaseRule, readRule, readReservedRule, put, freed, seated, booked, ended, doneWith, perform, settle, AccountOperation, ensure, topUp, limit, reserve, commit, release, readRemaining, readReserved, onName, onBooking, operate, LedgerRead, readCommittedTotal, readAccounts, readLive, readLastVersion, readCommittedSince, readLedger, readLent}
+use Rattle.rules.specs.RoomAndSoundLedger.{M, mostNames, mostReservations, Name, order, same, Ledger, holdsPlace, seatIn, committedTotal, fresh, made}
+use Rattle.rules.specs.AnswerNumbers.{Amount, Version, Count, YesOrNo, SnapshotBytes, Reply, done, NegativeAmount, InvalidAmount, MissingTenant, MissingReservation, ActiveReservations, DuplicateTenant, GhostReservation, NegativeLedgerField, ConservationViolation, AggregateOverflow, AlreadyRecoveryAware, InvalidAllocatorFence, LegacySnapshotRequiresMigration, NameTooLong, NamesFull, ReservationsFull, UnsoundLedger, replyOf, Lent, sound, unsound, answered, onLent}
+use Rattle.rules.specs.AccountRules.{ensureRule, topUpRule, limitRule, reserveRule, commitRule, releaseRule, readRule, readReservedRule, put, freed, seated, booked, ended, doneWith, perform, settle, AccountOperation, ensure, topUp, limit, reserve, commit, release, readRemaining, readReserved, onName, onBooking, operate, LedgerRead, readCommittedTotal, readAccounts, readLive, readLastVersion, readCommittedSince, readLedger}
 use Rattle.rules.specs.SnapshotsMigrationCertificates.{Row, Snapshot, bytesOf, numberFrom, rowBytes, snapshotBytes, readPart, readNumber, readAmount, readName, readRow, readRows, readCount, readSnapshot, hasLongName, accountRows, tagged, takingSnapshot, snapshot, _gives_else_, andThen, rowConservation, conservation, rowValidation, rowsValidation, validation, restoreVersion, recoveryVersion, restoredPlaces, orElse, restoreRefusal, restore, recoveryRestore, replyOr, migrate, status, exactTotal, certificate, certificateOfSnapshot, certificateOfLedger, conservationProof}
 use Rattle.rules.specs.Frames.{bytesOfLine, Operation, onAccount, takeSnapshot, certifyLedger, proveConservation, restoreFrom, recoverFrom, judge, migrateTo, certify, codes, readOperation, operationOf, answer, replyBytes, lineOfBytes, answerLine, operationOfLine, answerToLine, pieces, counted, linesOf, answersToLines, house}
 use Rattle.rules.specs.MarkedCases.{charactersOf, Q1, Case, case, with100, granted, lastAnswer, ran}
@@ -145,6 +145,11 @@ readCases =
     overfull : List Row
     overfull = row Q1 (pos M) (pos 0) (pos 0) (pos M) ∷ row Q2 (pos 1) (pos 0) (pos 0) (pos 1) ∷ []
 
+-- 24 where what is lent is not sound
+readLent : Lent → LedgerRead → Reply
+readLent unsound read = replyOf UnsoundLedger
+readLent (sound L) read = readLedger L read
+
 readAnswered : ReadCase → ReadCase
 readAnswered c = record { operations = c .operations; read = c .read; answer = readLent (lastAnswer (answered (done []) (sound (fresh mostNames mostReservations))) (c .operations) .lent) (c .read) }
 
@@ -154,9 +159,36 @@ read-cases = refl
 
 -- ── making a ledger, and output room ───────────────────────────────────────────────────────────
 
-made-cases : (made 0 1 ≡ none) × (made 1 1 ≡ some (fresh 1 1)) × (made 256 1024 ≡ some (fresh 256 1024)) × (made 257 1024 ≡ none) × (made 256 1025 ≡ none) × (made 256 0 ≡ none) × (makingReply (made 257 1) .number ≡ 24)
+-- T, R, and whether a ledger is made
+record MakingCase : Type 0 where
+  T : ℕ
+  R : ℕ
+  makes : Bool
+
+making : ℕ → ℕ → Bool → MakingCase
+making t r b = record { T = t; R = r; makes = b }
+
+isMade : Option Ledger → Bool
+isMade none = false
+isMade (some L) = true
+
+makingCases : List MakingCase
+makingCases =
+    making 0 1 false
+    ∷ making 1 0 false
+    ∷ making 1 1 true
+    ∷ making mostNames mostReservations true
+    ∷ making (mostNames + 1) mostReservations false
+    ∷ making mostNames (mostReservations + 1) false
+    ∷ []
+
+made-cases : map (λ c. making (c .T) (c .R) (isMade (made (c .T) (c .R)))) makingCases ≡ makingCases
+unfolding made making isMade makingCases
+made-cases = refl
+
+made-fresh : made 1 1 ≡ some (fresh 1 1)
 unfolding made
-made-cases = (refl, refl, refl, refl, refl, refl, refl)
+made-fresh = refl
 
 -- 22 last: after 9, and after validation
 output-cases : (snapshot 17 (fresh 1 1) .reply .number ≡ 22) × (snapshot 18 (fresh 1 1) .reply .number ≡ 0) × (migrate 17 5 (snapshotWith 9 0 []) .number ≡ 22) × (migrate 18 5 (snapshotWith 9 0 []) .number ≡ 0) × (migrate 17 5 (snapshotWith 9 1 []) .number ≡ 10)

@@ -11,17 +11,11 @@ use lib.IntN.{ℤ, pos, negsuc}
 use lib.ListN.{length}
 use Rattle.rules.specs.RoomAndSoundLedger.{M, Name, Account, Booking, Ledger, committedTotal, InRange}
 use Rattle.rules.specs.AnswerNumbers.{Reply, Refusal, NegativeAmount, InvalidAmount, MissingTenant, OverflowOfReserve, OverflowOfCommit, OverflowOfTopUp, ExposureLimitExceeded, Insufficient, MissingReservation, Overrun, AllocatorExhausted, ActiveReservations, DuplicateTenant, GhostReservation, NegativeLedgerField, ConservationViolation, AggregateOverflow, AlreadyRecoveryAware, InvalidAllocatorFence, LegacySnapshotRequiresMigration, NameTooLong, NamesFull, ReservationsFull, OutputTooShort, BadFrame, UnsoundLedger, replyOf, Outcome, sound, Answered, answered, onLent}
-use Rattle.rules.specs.AccountRules.{Move, refuse, tell, write, lose, book, Settlement, leave, end, ensureRule, topUpRule, limitRule, reserveRule, commitRule, releaseRule, readRule, readReservedRule, hasRoom, booked, drawn, perform, settle, AccountOperation, ensure, topUp, limit, reserve, commit, release, readRemaining, readInitial, readCommitted, readReserved, isTooLong, named, onName, onBooking, nextIdIsM, operate}
-use Rattle.rules.specs.SnapshotsMigrationCertificates.{afterSnapshot, snapshotOf, takingSnapshot, tooShortFor, snapshot, orElse, restore, recoveryRestore, replyOr, migrate, status, totalsFit, certificate, certificateOfSnapshot, certificateOfLedger, conservationProof}
+use Rattle.rules.specs.AccountRules.{Move, refuse, tell, write, lose, book, Settlement, leave, end, ensureRule, topUpRule, limitRule, reserveRule, commitRule, releaseRule, readRule, readReservedRule, hasRoom, booked, perform, settle, AccountOperation, ensure, topUp, limit, reserve, commit, release, readRemaining, readInitial, readCommitted, readReserved, isTooLong, named, onName, onBooking, nextIdIsM, operate}
+use Rattle.rules.specs.SnapshotsMigrationCertificates.{snapshotOf, takingSnapshot, tooShortFor, snapshot, orElse, restore, recoveryRestore, replyOr, migrate, status, totalsFit, certificate, certificateOfSnapshot, certificateOfLedger, conservationProof}
 use Rattle.rules.specs.Frames.{Operation, onAccount, takeSnapshot, certifyLedger, proveConservation, restoreFrom, recoverFrom, judge, migrateTo, certify, answer, operationOfLine, answerToLine}
+use Rattle.rules.specs.Refusals.{MayAnswer, accepted, changed-nothing, drew-an-id, took-a-snapshot}
 use Rattle.rules.proofs.Tests.{by-test}
-
--- What an answer may have done to the sound ledger L that was lent
-pub data Answers (L : Ledger) (x : Operation) (r : Answered) : Type 0 where
-  accepted : r .reply .number ≡ 0 → Answers L x r
-  changed-nothing : (e : Refusal) → r .reply ≡ replyOf e → r .lent ≡ sound L → Answers L x r
-  drew-an-id : (a : Name) (cost remaining : ℕ) → x ≡ onAccount (reserve a (pos (suc cost))) → r .reply ≡ replyOf (Insufficient remaining (pos (suc cost))) → r .lent ≡ sound (drawn L) → Answers L x r
-  took-a-snapshot : x ≡ proveConservation → r .reply ≡ replyOf AggregateOverflow → r .lent ≡ sound (afterSnapshot L) → Answers L x r
 
 -- "0 is done", and the refusals are numbered 1 to 24
 pub refusal-number : (e : Refusal) → InRange 1 24 (replyOf e .number)
@@ -66,24 +60,24 @@ module _ (L : Ledger) where
   Loses x (lose e) = (a : Name) × (cost : ℕ) × (remaining : ℕ) × (x ≡ onAccount (reserve a (pos (suc cost)))) × (e ≡ Insufficient remaining (pos (suc cost)))
   Loses x (book remaining s cost) = Unit {0}
 
-  perform-answers : (x : Operation) (a : Name) (m : Move) → Loses x m → Answers L x (asAnswered (perform L a m))
+  perform-answers : (x : Operation) (a : Name) (m : Move) → Loses x m → MayAnswer L x (asAnswered (perform L a m))
   unfolding perform
   perform-answers x a (refuse e) h = changed-nothing e refl refl
   perform-answers x a (tell zs) h = accepted refl
-  perform-answers x a (write zs s) h = by-test (λ o. Answers L x (asAnswered o)) (hasRoom a s L) (λ _. accepted refl) (λ _. changed-nothing NamesFull refl refl)
+  perform-answers x a (write zs s) h = by-test (λ o. MayAnswer L x (asAnswered o)) (hasRoom a s L) (λ _. accepted refl) (λ _. changed-nothing NamesFull refl refl)
   perform-answers x a (lose e) h = drew-an-id (h .0) (h .1) (h .2) (h .3) (rw (h .4)) refl
-  perform-answers x a (book remaining s cost) h = by-test (λ o. Answers L x (asAnswered o)) (ltb (length (L .bookings)) (L .R)) (λ _. accepted refl) (λ _. changed-nothing ReservationsFull refl refl)
+  perform-answers x a (book remaining s cost) h = by-test (λ o. MayAnswer L x (asAnswered o)) (ltb (length (L .bookings)) (L .R)) (λ _. accepted refl) (λ _. changed-nothing ReservationsFull refl refl)
 
-  named-answers : (x : Operation) (a : Name) (m : Move) → Loses x m → Answers L x (asAnswered (perform L a (named a m)))
-  named-answers x a m h = by-test (λ (m : Move). Answers L x (asAnswered (perform L a m))) (isTooLong a) (λ _. perform-answers x a (refuse NameTooLong) tt) (λ _. perform-answers x a m h)
+  named-answers : (x : Operation) (a : Name) (m : Move) → Loses x m → MayAnswer L x (asAnswered (perform L a (named a m)))
+  named-answers x a m h = by-test (λ (m : Move). MayAnswer L x (asAnswered (perform L a m))) (isTooLong a) (λ _. perform-answers x a (refuse NameTooLong) tt) (λ _. perform-answers x a m h)
 
-  settle-answers : (x : Operation) (o : Option Booking) (t : Settlement) → Answers L x (asAnswered (settle L o t))
+  settle-answers : (x : Operation) (o : Option Booking) (t : Settlement) → MayAnswer L x (asAnswered (settle L o t))
   unfolding settle
   settle-answers x o (leave e) = changed-nothing e refl refl
   settle-answers x none (end zs s) = changed-nothing MissingReservation refl refl
   settle-answers x (some b) (end zs s) = accepted refl
 
-  on-booking-answers : (x : Operation) (o : Option Booking) (rule : Option ℕ → Option Account → ℕ → Settlement) → Answers L x (asAnswered (onBooking L o rule))
+  on-booking-answers : (x : Operation) (o : Option Booking) (rule : Option ℕ → Option Account → ℕ → Settlement) → MayAnswer L x (asAnswered (onBooking L o rule))
   unfolding onBooking
   on-booking-answers x none rule = settle-answers x none _
   on-booking-answers x (some b) rule = settle-answers x (some b) _
@@ -129,7 +123,7 @@ module _ (L : Ledger) where
       x : Operation
       x = onAccount (reserve a (pos (suc n)))
 
-  account-answers : (x : AccountOperation ℕ) → Answers L (onAccount x) (asAnswered (operate L x))
+  account-answers : (x : AccountOperation ℕ) → MayAnswer L (onAccount x) (asAnswered (operate L x))
   unfolding operate onName
   account-answers (ensure a z) = named-answers _ a _ (ensure-loses _ z _ _)
   account-answers (topUp a z) = named-answers _ a _ (top-up-loses _ z _ _)
@@ -144,36 +138,36 @@ module _ (L : Ledger) where
 
   -- ── snapshots and what goes with them ────────────────────────────────────────────────────────
 
-  taking-answers : (x : Operation) (o : Outcome) → Answers L x (asAnswered o) → Answers L x (asAnswered (takingSnapshot L o))
+  taking-answers : (x : Operation) (o : Outcome) → MayAnswer L x (asAnswered o) → MayAnswer L x (asAnswered (takingSnapshot L o))
   unfolding takingSnapshot
-  taking-answers x o h = by-test (λ o. Answers L x (asAnswered o)) (nextIdIsM L) (λ _. changed-nothing AllocatorExhausted refl refl) (λ _. h)
+  taking-answers x o h = by-test (λ o. MayAnswer L x (asAnswered o)) (nextIdIsM L) (λ _. changed-nothing AllocatorExhausted refl refl) (λ _. h)
 
-  restore-answers : (x : Operation) (o : Option Refusal) (after : Ledger) → Answers L x (asAnswered (orElse o L after))
+  restore-answers : (x : Operation) (o : Option Refusal) (after : Ledger) → MayAnswer L x (asAnswered (orElse o L after))
   unfolding orElse
   restore-answers x none after = accepted refl
   restore-answers x (some e) after = changed-nothing e refl refl
 
-  reply-answers : (x : Operation) (o : Option Refusal) (r : Reply) → r .number ≡ 0 → Answers L x (answered (replyOr o r) (sound L))
+  reply-answers : (x : Operation) (o : Option Refusal) (r : Reply) → r .number ≡ 0 → MayAnswer L x (answered (replyOr o r) (sound L))
   unfolding replyOr
   reply-answers x none r h = accepted h
   reply-answers x (some e) r h = changed-nothing e refl refl
 
-  pub every-answer : (x : Operation) → Answers L x (answer (sound L) x)
+  pub every-answer : (x : Operation) → MayAnswer L x (answer (sound L) x)
   unfolding answer onLent snapshot restore recoveryRestore certificateOfLedger certificate conservationProof migrate status certificateOfSnapshot
   every-answer (onAccount x) = account-answers x
-  every-answer takeSnapshot = taking-answers _ _ (by-test (λ o. Answers L takeSnapshot (asAnswered o)) (tooShortFor _ (snapshotOf L)) (λ _. changed-nothing OutputTooShort refl refl) (λ _. accepted refl))
+  every-answer takeSnapshot = taking-answers _ _ (by-test (λ o. MayAnswer L takeSnapshot (asAnswered o)) (tooShortFor _ (snapshotOf L)) (λ _. changed-nothing OutputTooShort refl refl) (λ _. accepted refl))
   every-answer (restoreFrom s) = restore-answers _ _ _
   every-answer (recoverFrom s) = restore-answers _ _ _
   every-answer certifyLedger = taking-answers _ _
-      (by-test (λ o. Answers L certifyLedger (asAnswered o)) (totalsFit (snapshotOf L .rows) && ltb (L .baseline) (committedTotal (L .places))) (λ _. accepted refl) (λ _. accepted refl))
+      (by-test (λ o. MayAnswer L certifyLedger (asAnswered o)) (totalsFit (snapshotOf L .rows) && ltb (L .baseline) (committedTotal (L .places))) (λ _. accepted refl) (λ _. accepted refl))
   every-answer proveConservation = taking-answers _ _
-      (by-test (λ o. Answers L proveConservation (asAnswered o)) (totalsFit (snapshotOf L .rows)) (λ _. accepted refl) (λ _. took-a-snapshot refl refl refl))
+      (by-test (λ o. MayAnswer L proveConservation (asAnswered o)) (totalsFit (snapshotOf L .rows)) (λ _. accepted refl) (λ _. took-a-snapshot refl refl refl))
   every-answer (migrateTo fence s) = reply-answers _ _ _ refl
   every-answer (certify since s) = reply-answers _ _ _ refl
   every-answer (judge s) = reply-answers _ _ _ refl
 
   -- A line of any characters: 23 and nothing changed, or the answer of the operation that it holds
   pub every-line : (line : List ℕ) → (operationOfLine line ≡ none → answerToLine (sound L) line ≡ answered (replyOf BadFrame) (sound L))
-      × ((x : Operation) → operationOfLine line ≡ some x → Answers L x (answerToLine (sound L) line))
+      × ((x : Operation) → operationOfLine line ≡ some x → MayAnswer L x (answerToLine (sound L) line))
   unfolding answerToLine
   every-line line = (λ e. rw e, λ x e. rw e (every-answer x))

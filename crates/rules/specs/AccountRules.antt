@@ -10,7 +10,7 @@ use lib.Signed.{ltZ}
 use lib.ListN.{length}
 use Rattle.rules.specs.Lists.{first, keep}
 use Rattle.rules.specs.RoomAndSoundLedger.{M, longestName, Name, order, Account, Seat, seat, Place, place, isVacant, Booking, Ledger, withNextId, withPlaces, withBookings, isAt, holdsPlace, seatIn, hasAccount, committedTotal}
-use Rattle.rules.specs.AnswerNumbers.{Amount, Identifier, Version, Count, Reply, done, Refusal, NegativeAmount, InvalidAmount, MissingTenant, OverflowOfReserve, OverflowOfCommit, OverflowOfTopUp, ExposureLimitExceeded, Insufficient, MissingReservation, Overrun, AggregateOverflow, NameTooLong, NamesFull, ReservationsFull, UnsoundLedger, replyOf, Outcome, outcome, refused, Lent, sound, unsound}
+use Rattle.rules.specs.AnswerNumbers.{Amount, Identifier, Version, Count, Reply, done, Refusal, NegativeAmount, InvalidAmount, MissingTenant, OverflowOfReserve, OverflowOfCommit, OverflowOfTopUp, ExposureLimitExceeded, Insufficient, MissingReservation, Overrun, AggregateOverflow, NameTooLong, NamesFull, ReservationsFull, replyOf, Outcome, outcome, refused}
 
 -- What a rule decides for a name. `tell`: done, with these amounts, and nothing changes. `write`: done, and the seat is now this one.
 -- `lose`: refused, but an id is drawn. `book`: the id drawn is granted for this cost; carries remaining and the id
@@ -228,8 +228,3 @@ readLedger L readAccounts = done (Count (length (keep isAccount (L .places))) �
 readLedger L readLive = done (Count (length (L .bookings)) ∷ [])
 readLedger L readLastVersion = done (Version (L .lastVersion) ∷ [])
 readLedger L readCommittedSince = done (Amount (pos (min (committedTotal (L .places)) M - L .baseline)) ∷ [])
-
--- 24 as everywhere
-unfoldable pub readLent : Lent → LedgerRead → Reply
-readLent unsound read = replyOf UnsoundLedger
-readLent (sound L) read = readLedger L read

@@ -123,8 +123,3 @@ answered r l = record { reply = r; lent = l }
 unfoldable pub onLent : Lent → (Ledger → Outcome) → Answered
 onLent unsound f = answered (replyOf UnsoundLedger) unsound
 onLent (sound L) f = answered (f L .reply) (sound (f L .ledger))
-
--- the answer to the making of a ledger
-abbrev pub makingReply : Option Ledger → Reply
-makingReply none = replyOf UnsoundLedger
-makingReply (some L) = done []

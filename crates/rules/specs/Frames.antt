@@ -176,6 +176,11 @@ answerOr23 l (some x) = answer l x
 unfoldable pub answerToLine : Lent → List ℕ → Answered
 answerToLine l line = answerOr23 l (operationOfLine line)
 
+-- what is lent after some lines
+unfoldable pub lentAfter : Lent → List (List ℕ) → Lent
+lentAfter l [] = l
+lentAfter l (line ∷ lines) = lentAfter (answerToLine l line .lent) lines
+
 -- ── a whole input to the whole output ──────────────────────────────────────────────────────────
 
 abbrev pub lineFeed : ℕ

@@ -4,6 +4,7 @@ pub mod AnswerNumbers
 pub mod AccountRules
 pub mod SnapshotsMigrationCertificates
 pub mod Frames
+pub mod Refusals
 pub mod Domain
 pub mod OrderBetweenAirlines
 pub mod MarkedCases

@@ -9,7 +9,7 @@ use lib.Signed.{ltZ}
 use lib.ListN.{length, take, drop}
 use Rattle.rules.specs.Lists.{any}
 use Rattle.rules.specs.RoomAndSoundLedger.{M, Name, same, Account, Seat, seat, Place, Ledger, withNextId, withLastVersion, withBaseline, withPlaces, withBookings, committedTotal, hasTag, fenceOf}
-use Rattle.rules.specs.AnswerNumbers.{Amount, Version, Count, YesOrNo, SnapshotBytes, Reply, done, remainingField, initialField, committedField, versionField, Refusal, AllocatorExhausted, ActiveReservations, DuplicateTenant, GhostReservation, NegativeLedgerField, ConservationViolation, AggregateOverflow, AlreadyRecoveryAware, InvalidAllocatorFence, LegacySnapshotRequiresMigration, NameTooLong, NamesFull, OutputTooShort, BadFrame, replyOf, Outcome, outcome, refused, Lent, Answered, answered}
+use Rattle.rules.specs.AnswerNumbers.{Value, Amount, Identifier, Version, Fence, Count, Field, YesOrNo, TheName, SnapshotBytes, Reply, done, remainingField, initialField, committedField, versionField, Refusal, AllocatorExhausted, ActiveReservations, DuplicateTenant, GhostReservation, NegativeLedgerField, ConservationViolation, AggregateOverflow, AlreadyRecoveryAware, InvalidAllocatorFence, LegacySnapshotRequiresMigration, NameTooLong, NamesFull, OutputTooShort, replyOf, Outcome, outcome, refused}
 use Rattle.rules.specs.AccountRules.{account, natural, put, drawn, isTooLong}
 
 -- ── snapshot bytes ─────────────────────────────────────────────────────────────────────────────
@@ -143,14 +143,6 @@ whole (some r) = cond (eqb (length (r .rest)) 0) (some (r .value)) none
 unfoldable pub snapshotOfBytes : List ℕ → Option Snapshot
 snapshotOfBytes bs = whole (readSnapshot bs)
 
--- what is handed snapshot bytes gives 23 before anything else
-abbrev pub onSnapshot : Option Snapshot → Lent → (Snapshot → Answered) → Answered
-onSnapshot none l f = answered (replyOf BadFrame) l
-onSnapshot (some s) l f = f s
-
-unfoldable pub onSnapshotBytes : List ℕ → Lent → (Snapshot → Answered) → Answered
-onSnapshotBytes bs l f = onSnapshot (snapshotOfBytes bs) l f
-
 -- A name of more than 24 bytes in such bytes: 19, on any operation that is handed a snapshot
 unfoldable pub hasLongName : List Row → Bool
 hasLongName = any (λ r. isTooLong (r .name))
@@ -187,6 +179,27 @@ takingSnapshot L taken = cond (eqb (L .nextId) M) (refused AllocatorExhausted L)
 -- an answer that hands out a snapshot's bytes: "Output too short gives 22"
 abbrev pub tooShortFor : (output : ℕ) → Snapshot → Bool
 tooShortFor output s = ltb output (length (snapshotBytes s))
+
+-- the output room after an answer: a snapshot's bytes stand at its front and all behind them stays; an answer without them, a refusal among these, changes nothing
+abbrev pub bytesOfValue : Value → List ℕ
+bytesOfValue (Amount z) = []
+bytesOfValue (Identifier n) = []
+bytesOfValue (Version n) = []
+bytesOfValue (Fence n) = []
+bytesOfValue (Count n) = []
+bytesOfValue (Field n) = []
+bytesOfValue (YesOrNo b) = []
+bytesOfValue (TheName a) = []
+bytesOfValue (SnapshotBytes bs) = bs
+
+-- an answer with a snapshot carries nothing else
+abbrev pub handedOut : List Value → List ℕ
+handedOut [] = []
+handedOut (v ∷ []) = bytesOfValue v
+handedOut (v ∷ w ∷ vs) = []
+
+abbrev pub outputAfter : Reply → List ℕ → List ℕ
+outputAfter r output = handedOut (r .carried) ++ drop (length (handedOut (r .carried))) output
 
 -- "Snapshot: next id M gives 9; output too short gives 22; else .."
 unfoldable pub snapshot : (output : ℕ) → Ledger → Outcome

@@ -11,7 +11,7 @@ use lib.Seq.{take-at, drop-at, length-take-le}
 use Rattle.rules.specs.RoomAndSoundLedger.{Ledger, Sound}
 use Rattle.rules.specs.AnswerNumbers.{SnapshotBytes, Reply, AllocatorExhausted, OutputTooShort, done, replyOf, Outcome, outcome, refused, sound, onLent}
 use Rattle.rules.specs.AccountRules.{nextIdIsM}
-use Rattle.rules.specs.SnapshotsMigrationCertificates.{Snapshot, rowBytes, snapshotBytes, accountRows, afterSnapshot, snapshotOf, takingSnapshot, tooShortFor, snapshot}
+use Rattle.rules.specs.SnapshotsMigrationCertificates.{Snapshot, rowBytes, snapshotBytes, accountRows, afterSnapshot, snapshotOf, takingSnapshot, tooShortFor, outputAfter, snapshot}
 use Rattle.rules.specs.Frames.{takeSnapshot, longestSnapshot, answer}
 use Rattle.rules.proofs.Tests.{by-test, by-bool}
 use Rattle.rules.proofs.SnapshotSoundness.{answer-sound}
@@ -26,7 +26,7 @@ use Rattle.snapshot_writer.specs.declared.Extent.{Extent}
 use Rattle.room.specs.Contents.{contentsOf, withHead}
 use Rattle.room.specs.Room.{headIn, contentsIn, IsRoom, Performed}
 use Rattle.room.proofs.SoundRoom.{sizes-are}
-use Rattle.snapshot_writer.specs.Output.{outputAfter, snapshotReply}
+use Rattle.snapshot_writer.specs.Output.{snapshotReply}
 use Rattle.snapshot_writer.specs.declared.Snapshotted.the-variants as snapshotted
 use Rattle.snapshot_writer.proofs.PlaceRows.{snapshot-size, rows-most}
 

@@ -1,4 +1,4 @@
--- The row of a place, an answer that hands out a snapshot's bytes, and the output room after it.
+-- The row of a place, and what an answer that hands out a snapshot's bytes means.
 use mathlib.Core.Bool.{cond}
 use mathlib.Core.List.{List, [], _∷_, _++_}
 use Prim.Native.Nat.{ℕ, _+_, _≤_}
@@ -18,27 +18,6 @@ rowOfPlace p = cond (eqb (p .account) 0) [] (rowInPlace p ∷ [])
 -- its length: the name's length, the name and four amounts
 abbrev pub rowSize : Place → ℕ
 rowSize p = cond (eqb (p .account) 0) 0 (33 + p .name .length)
-
-abbrev pub bytesOfValue : Value → List ℕ
-bytesOfValue (Amount z) = []
-bytesOfValue (Identifier n) = []
-bytesOfValue (Version n) = []
-bytesOfValue (Fence n) = []
-bytesOfValue (Count n) = []
-bytesOfValue (Field n) = []
-bytesOfValue (YesOrNo b) = []
-bytesOfValue (TheName a) = []
-bytesOfValue (SnapshotBytes bs) = bs
-
--- an answer with a snapshot carries nothing else
-abbrev pub handedOut : List Value → List ℕ
-handedOut [] = []
-handedOut (v ∷ []) = bytesOfValue v
-handedOut (v ∷ w ∷ vs) = []
-
--- "Output past the bytes written keeps its content", and a refusal, which hands out no bytes, leaves "all output room untouched"
-abbrev pub outputAfter : Reply → List ℕ → List ℕ
-outputAfter r output = handedOut (r .carried) ++ drop (length (handedOut (r .carried))) output
 
 -- the snapshot stands at the front of the output
 abbrev pub snapshotReply : (output : List ℕ) → Snapshotted → Reply

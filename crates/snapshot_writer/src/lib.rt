@@ -6,10 +6,10 @@ ghost use mathlib.Core.Bool.{not};
 ghost use mathlib.Core.List.{List, [], _∷_, _++_, flatMap};
 ghost use Prim.Native.Nat.{ℕ, _+_, _≤_, _<_};
 ghost use lib.ListN.{length, drop};
-ghost use Rattle.rules.specs.SnapshotsMigrationCertificates.{Row, rowBytes, accountRows, snapshotOf, tooShortFor, snapshot};
+ghost use Rattle.rules.specs.SnapshotsMigrationCertificates.{Row, rowBytes, accountRows, snapshotOf, tooShortFor, snapshot, outputAfter};
 ghost use Rattle.room.specs.Room.{SoundRoom, Performs, OfRoom};
 ghost use Rattle.snapshot_writer.specs.Rows.{rowInPlace, amountsBytes, headerBytes, WritesRows};
-ghost use Rattle.snapshot_writer.specs.Output.{rowSize, rowOfPlace, outputAfter, snapshotReply, SizeWithin};
+ghost use Rattle.snapshot_writer.specs.Output.{rowSize, rowOfPlace, snapshotReply, SizeWithin};
 
 pub enum Snapshotted {
     Written(usize),

@@ -2,8 +2,7 @@
 use mathlib.Core.Path.{sym, ap}
 use borrow.Author.Needs.{needs}
 use lib.ListN.{length}
-use Rattle.rules.specs.SnapshotsMigrationCertificates.{replyOr, migrate}
-use Rattle.snapshot_writer.specs.Output.{outputAfter}
+use Rattle.rules.specs.SnapshotsMigrationCertificates.{outputAfter, replyOr, migrate}
 use Rattle.validation.proofs.Deciding.{nameless-short}
 use Rattle.migration.specs.Migrated.{migratedReply}
 use Rattle.any_memory_snapshots.proofs.Supplied.{is-snapshot, bad-judged, judged}

@@ -9,7 +9,7 @@ use lib.ListN.{length, take, drop}
 use Rattle.rules.specs.Lists.{All}
 use Rattle.rules.specs.RoomAndSoundLedger.{IsByte}
 use Rattle.rules.specs.AnswerNumbers.{SnapshotBytes, Reply, Refusal, done}
-use Rattle.rules.specs.SnapshotsMigrationCertificates.{Snapshot, snapshotOfBytes, tagged, replyOr, migrate}
+use Rattle.rules.specs.SnapshotsMigrationCertificates.{Snapshot, snapshotOfBytes, tagged, outputAfter, replyOr, migrate}
 use Rattle.rules.specs.Frames.{longestSnapshot}
 use Rattle.rules.proofs.SnapshotBytes.{snapshot-only}
 use Rattle.numbers.proofs.Bytes.{all-bytes}
@@ -17,7 +17,6 @@ use Rattle.names.specs.Names.{spelled}
 use Rattle.validation.specs.Judgement.{refusalOf, refusalIn, judgedReply}
 use Rattle.answer_bytes.specs.Writing.{WritesReply}
 use Rattle.answer_bytes.proofs.Arms.{matched}
-use Rattle.snapshot_writer.specs.Output.{outputAfter}
 use Rattle.migration.specs.Migrated.{migratedReply}
 use Rattle.migration.proofs.MigratedBytes.{migrated-length}
 use Rattle.migration.proofs.Untouched.{is-refused, same-answer, untouched}

@@ -8,11 +8,11 @@ use lib.ListN.{length, take}
 use lib.Seq.{length-take-le}
 use Rattle.rules.specs.RoomAndSoundLedger.{Ledger}
 use Rattle.rules.specs.AnswerNumbers.{AllocatorExhausted, replyOf, Outcome}
-use Rattle.rules.specs.SnapshotsMigrationCertificates.{snapshot}
+use Rattle.rules.specs.SnapshotsMigrationCertificates.{outputAfter, snapshot}
 use Rattle.rules.specs.Frames.{longestSnapshot, answer}
 use Rattle.room.specs.Room.{IsRoom, Performed}
 use Rattle.answer_bytes.specs.Writing.{WritesReply}
-use Rattle.snapshot_writer.specs.Output.{outputAfter, snapshotReply, SizeWithin}
+use Rattle.snapshot_writer.specs.Output.{snapshotReply, SizeWithin}
 use Rattle.snapshot_writer.specs.declared.Snapshotted.the-variants as snapshotted
 use Rattle.frames.proofs.Performing.{performed}
 use Rattle.frames.proofs.BehindTheNumber.{part, part-back, part-length, number-before}

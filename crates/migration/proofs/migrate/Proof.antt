@@ -9,12 +9,11 @@ use lib.ListN.{length, take, drop}
 use Rattle.rules.specs.Lists.{All}
 use Rattle.rules.specs.RoomAndSoundLedger.{M, IsByte}
 use Rattle.rules.specs.AnswerNumbers.{SnapshotBytes, Reply, Refusal, done}
-use Rattle.rules.specs.SnapshotsMigrationCertificates.{Snapshot, bytesOf, snapshotBytes, snapshotOfBytes, withVersion, tagged, replyOr}
+use Rattle.rules.specs.SnapshotsMigrationCertificates.{Snapshot, bytesOf, snapshotBytes, snapshotOfBytes, outputAfter, withVersion, tagged, replyOr}
 use Rattle.numbers.proofs.Bytes.{all-bytes}
 use Rattle.names.specs.Names.{spelled}
 use Rattle.snapshot_reader.proofs.Header.{is-long}
 use Rattle.validation.specs.Judgement.{refusalOf, refusalIn}
-use Rattle.snapshot_writer.specs.Output.{outputAfter}
 use Rattle.migration.proofs.MigratedBytes.{migrated-bytes, migrated-length, handed-out, kept-behind}
 use Rattle.migration.proofs.Untouched.{is-refused, same-answer, untouched}
 use Rattle.migration.proofs.migrate.Statement.{statement}
