@@ -1,4 +1,5 @@
--- Each answer of each rule, from plain facts: what the tests of the code leave.
+-- Each answer of each rule, from plain facts: what the tests of the code leave. A lemma for each return; the facts decide the rule's tests, and it
+-- computes to the answer.
 use mathlib.Core.Path.{_≡_, refl, sym, _∙_, ap, subst}
 use mathlib.Core.Bool.{Bool, true, false, cond, _&&_}
 use mathlib.Core.List.{[], _∷_}
@@ -14,7 +15,7 @@ use Rattle.rules.specs.AnswerNumbers.{NegativeAmount, InvalidAmount, MissingTen
 use Rattle.rules.specs.AccountRules.{refuse, tell, write, lose, book, leave, end, account, natural, ensureRule, topUpRule, limitRule, reserveRule, commitRule, releaseRule}
 use Rattle.rules.proofs.Delta.{delta-exceeds, remaining-falls}
 use Rattle.moves.specs.declared.Seat.{Seat}
-use Rattle.moves.specs.Moves.{accountOf, kept, keptSeat, SeatSound}
+use Rattle.moves.specs.Moves.{accountIn, accountOf, kept, keptSeat, SeatSound}
 
 -- what a callee's answer says of the definition that its contract names
 pub told : {A : Type 0} {r t b : A} → r ≡ t → r ≡ b → t ≡ b
@@ -26,10 +27,6 @@ unfolding M
 natural-small z n e h = let q : mag z ≡ n = ap mag e in omega arith
 
 -- ── seats ──────────────────────────────────────────────────────────────────────────────────────
-
--- the account of a seat whose flag says that it has one
-abbrev pub accountIn : Seat → Account
-accountIn s = record { initial = s .initial; remaining = s .remaining; reserved = s .reserved; committed = s .committed }
 
 abbrev pub AmountsAddUp : Seat → Type 0
 AmountsAddUp s = AddsUp (some (accountIn s))

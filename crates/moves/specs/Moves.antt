@@ -23,9 +23,12 @@ use Rattle.moves.specs.declared.Committing.the-variants as committing
 use Rattle.moves.specs.declared.Releasing.{Releasing}
 use Rattle.moves.specs.declared.Releasing.the-variants as releasing
 
+abbrev pub accountIn : Seat → Account
+accountIn s = record { initial = s .initial; remaining = s .remaining; reserved = s .reserved; committed = s .committed }
+
 -- the account, where the flag says that there is one
 abbrev pub accountOf : Seat → Option Account
-accountOf s = cond (eqb (s .account) 0) none (some (record { initial = s .initial; remaining = s .remaining; reserved = s .reserved; committed = s .committed }))
+accountOf s = cond (eqb (s .account) 0) none (some (accountIn s))
 
 abbrev pub meaning : Seat → RulesSeat
 meaning s = seat (accountOf s) (s .limit)

@@ -65,7 +65,7 @@ pub enum Releasing {
 
 const M: u64 = 9223372036854775807;
 
-// "Ensure: negative gives 1. An existing account is left as it is, done. Otherwise initial and remaining are the amount"
+// Opens an account with the amount, where the name has none.
 pub fn ensure(seat: Seat, amount: Microcents) -> Ensuring
     requires { ⌜ SeatSound seat ⌝ }
     ensures { λ r. ⌜ (ensuringMove (amount .0) r ≡ ensureRule (amount .0) (accountOf seat) (seat .limit)) × EnsuringSound r ⌝ }
@@ -86,7 +86,7 @@ pub fn ensure(seat: Seat, amount: Microcents) -> Ensuring
     })
 }
 
-// "Top-up: amount 0 or less gives 2; 3; initial plus amount above M gives 4; else both initial and remaining grow."
+// Adds a positive amount to an account.
 pub fn top_up(seat: Seat, amount: Microcents) -> ToppingUp
     requires { ⌜ SeatSound seat ⌝ }
     ensures { λ r. ⌜ (toppingUpMove (amount .0) r ≡ topUpRule (amount .0) (accountOf seat) (seat .limit)) × ToppingUpSound r ⌝ }
@@ -113,7 +113,7 @@ pub fn top_up(seat: Seat, amount: Microcents) -> ToppingUp
     })
 }
 
-// "Limit: negative gives 1; 0 removes it, always done; positive sets it"
+// Sets the limit, with or without an account; 0 is none.
 pub fn limit(seat: Seat, amount: Microcents) -> Limiting
     requires { ⌜ SeatSound seat ⌝ }
     ensures { λ r. ⌜ (limitingMove (amount .0) r ≡ limitRule (amount .0) (accountOf seat) (seat .limit)) × LimitingSound r ⌝ }
@@ -138,8 +138,7 @@ fn exceeds(limit: u64, reserved: u64) -> bool
     0 < limit && limit < reserved
 }
 
-// "Reserve: cost 0 or less gives 6 ..; 3; reserved plus cost above M gives 4; limit positive and reserved plus cost above it gives 5; next id
-// equal to M gives 4; remaining below cost gives 6, id drawn"
+// Sets a cost aside. Whether the ids are used up is asked after the limit and before the balance, so that an insufficient one draws an id.
 pub fn reserve(seat: Seat, cost: Microcents, next_id: u64) -> Reserving
     requires { ⌜ SeatSound seat ⌝ }
     ensures { λ r. ⌜ (reservingMove (cost .0) r ≡ reserveRule (cost .0) (eqb «next_id» M) (accountOf seat) (seat .limit)) × ReservingSound r ⌝ }
@@ -178,7 +177,7 @@ pub fn reserve(seat: Seat, cost: Microcents, next_id: u64) -> Reserving
     )
 }
 
-// "Commit: actual below 0 gives 2; .. committed plus actual above M gives 4; delta = actual - reserved amount; delta above remaining gives 8"
+// Spends what was booked, more or less of it: delta is taken from what remains, or given back where it is negative.
 pub fn commit(seat: Seat, booked: u64, actual: Microcents) -> Committing
     requires { ⌜ SeatSound seat × (booked ≤ seat .reserved) ⌝ }
     ensures { λ r. ⌜ (committingSettlement (actual .0) r ≡ commitRule (actual .0) (some booked) (accountOf seat) (seat .limit)) × CommittingSound r ⌝ }
@@ -206,7 +205,7 @@ pub fn commit(seat: Seat, booked: u64, actual: Microcents) -> Committing
     })
 }
 
-// "Release: .. remaining grows by the amount."
+// Gives back what was booked.
 pub fn release(seat: Seat, booked: u64) -> Releasing
     requires { ⌜ SeatSound seat × (booked ≤ seat .reserved) ⌝ }
     ensures { λ r. ⌜ (releasingSettlement booked r ≡ releaseRule (some booked) (accountOf seat) (seat .limit)) × ReleasingSound r ⌝ }

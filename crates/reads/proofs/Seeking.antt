@@ -14,9 +14,8 @@ use Rattle.rules.specs.RoomAndSoundLedger.{M, Name, Account, Ledger, seatIn, Ad
 use Rattle.rules.specs.AnswerNumbers.{Amount, Reply, MissingTenant, NameTooLong, done, replyOf}
 use Rattle.rules.specs.AccountRules.{Move, refuse, perform, isTooLong, onName, readRule, readReservedRule}
 use Rattle.rules.proofs.Tests.{by-bool, by-test}
-use Rattle.moves.specs.Moves.{accountOf, kept, keptSeat, SeatSound}
+use Rattle.moves.specs.Moves.{accountIn, accountOf, kept, keptSeat, SeatSound}
 use Rattle.moves.specs.declared.Seat.{Seat}
-use Rattle.moves.proofs.Cases.{accountIn}
 use Rattle.records.specs.declared.Place.{Place}
 use Rattle.room.specs.Contents.{contentsOf, Sized, usedPlaces, placeOfName}
 use Rattle.room.specs.Room.{IsRoom, SoundRoom}

@@ -1,4 +1,4 @@
--- Document 01, "Answer numbers".
+-- Document 01, section "Answer numbers".
 use mathlib.Core.Bool.{Bool}
 use mathlib.Core.List.{List, [], _∷_}
 use mathlib.Core.Option.{Option, none, some}
@@ -22,11 +22,10 @@ pub record Reply : Type 0 where
 abbrev pub reply : ℕ → List Value → Reply
 reply n vs = record { number = n; carried = vs }
 
--- "0 is done."
 abbrev pub done : List Value → Reply
 done vs = reply 0 vs
 
--- "field byte (1 remaining, 2 initial, 3 committed, 4 version)"
+-- the field byte of row 13
 abbrev pub remainingField : ℕ
 remainingField = 1
 
@@ -99,11 +98,11 @@ pub record Outcome : Type 0 where
 abbrev pub outcome : Reply → Ledger → Outcome
 outcome r L = record { reply = r; ledger = L }
 
--- "Each refusal .. leaves the ledger .. untouched"
+-- by a refusal that changes nothing
 abbrev pub refused : Refusal → Ledger → Outcome
 refused e L = outcome (replyOf e) L
 
--- "Where a ledger is lent, 24 is given exactly when it isn't sound": what is lent is a sound ledger with this content, or memory that is none
+-- What is lent: a sound ledger with this content, or memory that holds none, for which there is 24
 pub data Lent : Type 0 where
   sound : Ledger → Lent
   unsound : Lent

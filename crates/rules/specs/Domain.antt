@@ -1,5 +1,5 @@
--- Document 01, "What is carried over": "Amounts are signed 64-bit microcents"; "The port takes any bytes as a name."
--- What a caller can hand in at all; the theorems about every operation suppose no more than this.
+-- Document 01, section "What is carried over": what a caller can hand in at all. Amounts are signed 64-bit numbers, names any bytes; the theorems about
+-- every operation suppose no more than this.
 use mathlib.Core.Path.{_≡_}
 use mathlib.Core.Bool.{true}
 use Prim.Native.Nat.{ℕ, _^_, _≤_, _<_}

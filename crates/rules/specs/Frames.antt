@@ -1,4 +1,4 @@
--- Document 01, "Frames".
+-- Document 01, section "Frames".
 use mathlib.Core.Bool.{Bool, true, false, cond, _&&_}
 use mathlib.Core.List.{List, [], _∷_, _++_, flatMap}
 use mathlib.Core.Option.{Option, none, some}
@@ -14,14 +14,14 @@ use Rattle.rules.specs.SnapshotsMigrationCertificates.{Snapshot, mostRow
 
 -- ── a line of digits to bytes ──────────────────────────────────────────────────────────────────
 
--- "lines of lowercase hexadecimal": a character's digit, or 16 for none
+-- a character's digit, or 16 for none: the characters of lowercase hexadecimal stand at 48 to 57 and at 97 to 102
 abbrev pub isBetween : ℕ → ℕ → ℕ → Bool
 isBetween low high c = leb low c && leb c high
 
 abbrev pub digitOf : ℕ → ℕ
 digitOf c = cond (isBetween 48 57 c) (c - 48) (cond (isBetween 97 102 c) (c - 87) 16)
 
--- "odd, .. or any character but 0-9 and a-f: 23": none stands for 23
+-- none stands for 23: an odd length, or a character that is no digit
 abbrev pub byteBefore : ℕ → ℕ → Option (List ℕ) → Option (List ℕ)
 byteBefore high low none = none
 byteBefore high low (some bs) = cond (ltb high 16 && ltb low 16) (some ((high * 16 + low) ∷ bs)) none
@@ -40,7 +40,6 @@ pub data Operation : Type 0 where
   migrateTo : (fence : ℕ) → Snapshot → Operation
   certify : (since : ℤ) → Snapshot → Operation
 
--- "(name, amount)"
 abbrev pub nameAndAmount : (Name → ℤ → AccountOperation ℕ) → Reader Operation
 nameAndAmount operation = do
   a ← readName
@@ -59,9 +58,7 @@ pub record Code : Type 0 where
 abbrev pub code : ℕ → Reader Operation → Code
 code n r = record { number = n; body = r }
 
--- "Operations: 01 ensure, 02 top-up, 03 limit, 04 reserve (name, amount); 05 commit (id, amount); 06 release (id); 07 snapshot; 08 restore,
--- 09 recovery restore (snapshot); 0a migrate (fence, snapshot); 0b certificate; 0c certificate of a snapshot (since, snapshot); 0d proof;
--- 0e conservation status of a snapshot."
+-- the paper's list of operations: the first byte, and what is read behind it
 unfoldable pub codes : List Code
 codes =
     code 0x01 (nameAndAmount ensure)
@@ -98,17 +95,17 @@ readOperation = do
   number ← readNumber 1
   bodyOf (first (λ c. eqb number (c .number)) codes)
 
--- "Empty, .. short, overlong, unknown ..: 23"
+-- none stands for 23: nothing to read, too little or too much of it, or no such operation
 unfoldable pub operationOf : List ℕ → Option Operation
 operationOf bs = whole (readOperation bs)
 
 -- ── an operation to its answer ─────────────────────────────────────────────────────────────────
 
--- the bytes of the longest snapshot: its head, and as many rows of the longest name as there can be. An answer line has room for it, so that no frame meets 22
+-- the bytes of the longest snapshot: its head, and all rows that there can be, of the longest names. An answer has room for it, so no frame meets 22
 abbrev pub longestSnapshot : ℕ
 longestSnapshot = 8 + 8 + 2 + mostRows * (1 + longestName + 4 * 8)
 
--- "Order everywhere: 23, 24, 19, then the source's order"; "migration and judging a supplied snapshot take none"
+-- 24 comes before all that an operation asks, where it takes a ledger; the last three take none
 unfoldable pub answer : Lent → Operation → Answered
 answer l (onAccount x) = onLent l (λ L. operate L x)
 answer l takeSnapshot = onLent l (snapshot longestSnapshot)
@@ -126,7 +123,7 @@ abbrev pub flag : Bool → ℕ
 flag false = 0
 flag true = 1
 
--- "names as in a snapshot row"; "Counts take 8 bytes, yes or no one byte."
+-- a name with its length byte, flags and fields in one byte, numbers in eight
 abbrev pub valueBytes : Value → List ℕ
 valueBytes (Amount z) = amountBytes z
 valueBytes (Identifier i) = bytesOf 8 i
@@ -138,7 +135,6 @@ valueBytes (YesOrNo b) = bytesOf 1 (flag b)
 valueBytes (TheName a) = nameBytes a
 valueBytes (SnapshotBytes bs) = bs
 
--- "the answer number as a byte, then what it carries"
 unfoldable pub replyBytes : Reply → List ℕ
 replyBytes r = bytesOf 1 (r .number) ++ flatMap valueBytes (r .carried)
 
@@ -158,14 +154,14 @@ abbrev pub operationOfBytes : Option (List ℕ) → Option Operation
 operationOfBytes none = none
 operationOfBytes (some bs) = operationOf bs
 
--- The longest frames are a migration and a certificate of the longest snapshot: the operation's byte, a number of eight, the snapshot
+-- the longest frame holds the operation's byte, a number of eight bytes and the longest snapshot; a line has two characters for each of its bytes
 abbrev pub longestFrame : ℕ
 longestFrame = 1 + 8 + longestSnapshot
 
 abbrev pub longestLine : ℕ
 longestLine = longestFrame + longestFrame
 
--- "A line is at most 29,238 characters; a longer one gets one 23."
+-- 23 for a longer line, whatever it holds
 unfoldable pub operationOfLine : List ℕ → Option Operation
 operationOfLine line = cond (ltb longestLine (length line)) none (operationOfBytes (bytesOfLine line))
 
@@ -195,7 +191,7 @@ unfoldable pub pieces : List ℕ → List (List ℕ)
 pieces [] = [] ∷ []
 pieces (c ∷ cs) = let further : List (List ℕ) = pieces cs in cond (eqb c lineFeed) ([] ∷ further) (onto c further)
 
--- "A last line without a line feed counts unless empty."
+-- what stands after the last line feed is a line too, unless it is empty
 unfoldable pub counted : List (List ℕ) → List (List ℕ)
 counted [] = []
 counted ([] ∷ []) = []
@@ -205,13 +201,10 @@ counted (line ∷ next ∷ lines) = line ∷ counted (next ∷ lines)
 unfoldable pub linesOf : List ℕ → List (List ℕ)
 linesOf input = counted (pieces input)
 
--- "writes one answer line each"
 unfoldable pub answersToLines : Lent → List (List ℕ) → List ℕ
 answersToLines l [] = []
 answersToLines l (line ∷ lines) = let a : Answered = answerToLine l line in answerLine (a .reply) ++ (lineFeed ∷ answersToLines (a .lent) lines)
 
--- "A house program (T 256, R 1,024, from a fresh ledger) reads lines .., one frame a line"
+-- the house program: the whole output for a whole input
 unfoldable pub house : (input : List ℕ) → List ℕ
 house input = answersToLines (sound (fresh mostNames mostReservations)) (linesOf input)
-
--- "Whole case, input: .. Output: ..": specs/MarkedCases.antt, `wholeCaseInput` and `wholeCaseOutput`

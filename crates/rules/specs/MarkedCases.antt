@@ -1,5 +1,5 @@
--- Document 01, "Marked cases": "W1 to W12 .. Each starts fresh; account Q1 with 100 unless said."
-use mathlib.Core.List.{List, [], _∷_, map}
+-- Document 01, section "Marked cases": W1 to W12, and the whole case of section "Frames".
+use mathlib.Core.List.{List, [], _∷_, _++_, map, flatMap}
 use Prim.Native.Nat.{ℕ, _+_, _-_, _^_}
 use Prim.Native.Char.{code}
 use Prim.Native.String.{String, [] as []ᵗ, _∷_ as _∷ᵗ_}
@@ -8,7 +8,7 @@ use Rattle.rules.specs.RoomAndSoundLedger.{M, mostNames, mostReservation
 use Rattle.rules.specs.AnswerNumbers.{Amount, Identifier, Reply, done, MissingTenant, OverflowOfReserve, OverflowOfCommit, OverflowOfTopUp, ExposureLimitExceeded, Insufficient, Overrun, AllocatorExhausted, NegativeLedgerField, replyOf, Lent, sound, unsound, Answered, answered}
 use Rattle.rules.specs.AccountRules.{doneWith, AccountOperation, ensure, topUp, limit, reserve, commit}
 use Rattle.rules.specs.SnapshotsMigrationCertificates.{Snapshot, tagged}
-use Rattle.rules.specs.Frames.{Operation, onAccount, takeSnapshot, restoreFrom, answer}
+use Rattle.rules.specs.Frames.{Operation, onAccount, takeSnapshot, restoreFrom, answer, lineFeed}
 
 -- the characters of a text
 unfoldable pub charactersOf : String → List ℕ
@@ -29,7 +29,7 @@ pub record Case : Type 0 where
 abbrev pub case : List Operation → Reply → ℕ → Case
 case xs r n = record { T = mostNames; R = mostReservations; operations = xs; answer = r; nextId = n }
 
--- after an account Q1 with 100
+-- with the account that most cases start from
 abbrev pub with100 : List (AccountOperation ℕ) → List Operation
 with100 xs = map onAccount (ensure Q1 (pos 100) ∷ xs)
 
@@ -37,41 +37,45 @@ abbrev pub withoutRows : ℕ → Snapshot
 withoutRows v = record { version = v; active = 0; rows = [] }
 
 abbrev pub fenced : Snapshot
-fenced = record { version = tagged (M - 1); active = 0; rows = record { name = Q1; initial = pos 100; remaining = pos 100; reserved = pos 0; committed = pos 0 } ∷ [] }
+fenced = record {
+  version = tagged (M - 1);
+  active = 0;
+  rows = record { name = Q1; initial = pos 100; remaining = pos 100; reserved = pos 0; committed = pos 0 } ∷ [];
+}
 
 abbrev pub granted : (remaining id : ℕ) → Reply
 granted n i = done (Amount (pos n) ∷ Identifier i ∷ [])
 
--- Where the paper gives answers to more than one operation of a case, each has a row
+-- a row for each answer that the paper gives
 unfoldable pub markedCases : List Case
 markedCases =
-    -- W1 no account, reserve 0: 6 (0, 0), next id 1
+    -- W1
     case (onAccount (reserve Q1 (pos 0)) ∷ []) (replyOf (Insufficient 0 (pos 0))) 1
-    -- W2 no account, reserve 5: 3
+    -- W2
     ∷ case (onAccount (reserve Q1 (pos 5)) ∷ []) (replyOf MissingTenant) 1
-    -- W3 reserve 101: 6 (100, 101), next id 2
+    -- W3
     ∷ case (with100 (reserve Q1 (pos 101) ∷ [])) (replyOf (Insufficient 100 (pos 101))) 2
-    -- W4 reserve 101, reserve 100: remaining 0, id 2
+    -- W4
     ∷ case (with100 (reserve Q1 (pos 101) ∷ reserve Q1 (pos 100) ∷ [])) (granted 0 2) 3
-    -- W5 limit 50, reserve 50, reserve 1: 5 (50, 50)
+    -- W5
     ∷ case (with100 (limit Q1 (pos 50) ∷ reserve Q1 (pos 50) ∷ reserve Q1 (pos 1) ∷ [])) (replyOf (ExposureLimitExceeded 50 50)) 2
-    -- W6 reserve 10, reserve M: 4 (10)
+    -- W6
     ∷ case (with100 (reserve Q1 (pos 10) ∷ reserve Q1 (pos M) ∷ [])) (replyOf (OverflowOfReserve 10)) 2
-    -- W7 reserve 10, commit 0: (100, 0)
+    -- W7
     ∷ case (with100 (reserve Q1 (pos 10) ∷ commit 1 (pos 0) ∷ [])) (doneWith (pos 100 ∷ pos 0 ∷ [])) 2
-    -- W8 reserve 10, commit 101: 8 (90); commit 100: (0, 100)
+    -- W8
     ∷ case (with100 (reserve Q1 (pos 10) ∷ commit 1 (pos 101) ∷ [])) (replyOf (Overrun 90)) 2
     ∷ case (with100 (reserve Q1 (pos 10) ∷ commit 1 (pos 101) ∷ commit 1 (pos 100) ∷ [])) (doneWith (pos 0 ∷ pos 100 ∷ [])) 2
-    -- W9 reserve 10, commit 60, reserve 10, commit M: 4 (30)
+    -- W9
     ∷ case (with100 (reserve Q1 (pos 10) ∷ commit 1 (pos 60) ∷ reserve Q1 (pos 10) ∷ commit 2 (pos M) ∷ [])) (replyOf (OverflowOfCommit 30)) 3
-    -- W10 initial M - 5: top-up 6 gives 4, top-up 5 is done
+    -- W10
     ∷ case (map onAccount (ensure Q1 (pos (M - 5)) ∷ topUp Q1 (pos 6) ∷ [])) (replyOf OverflowOfTopUp) 1
     ∷ case (map onAccount (ensure Q1 (pos (M - 5)) ∷ topUp Q1 (pos 6) ∷ topUp Q1 (pos 5) ∷ [])) (doneWith (pos 5 ∷ pos M ∷ pos M ∷ [])) 1
-    -- W11 restore with no rows: version 0 gives 13 value 0; 2^63 gives 13 value M; 2^63 + 7 sets next id 7
+    -- W11
     ∷ case (restoreFrom (withoutRows 0) ∷ []) (replyOf (NegativeLedgerField [] 4 (pos 0))) 1
     ∷ case (restoreFrom (withoutRows (2 ^ 63)) ∷ []) (replyOf (NegativeLedgerField [] 4 (pos M))) 1
     ∷ case (restoreFrom (withoutRows (2 ^ 63 + 7)) ∷ []) (done []) 7
-    -- W12 restored with fence M - 1 and Q1 at 100: reserve 1 has id M - 1, the next gives 4 (1), snapshot gives 9
+    -- W12
     ∷ case (restoreFrom fenced ∷ onAccount (reserve Q1 (pos 1)) ∷ []) (granted 99 (M - 1)) M
     ∷ case (restoreFrom fenced ∷ onAccount (reserve Q1 (pos 1)) ∷ onAccount (reserve Q1 (pos 1)) ∷ []) (replyOf (OverflowOfReserve 1)) M
     ∷ case (restoreFrom fenced ∷ onAccount (reserve Q1 (pos 1)) ∷ takeSnapshot ∷ []) (replyOf AllocatorExhausted) M
@@ -94,8 +98,24 @@ ran c =
 
 -- ── the whole case of "Frames" ─────────────────────────────────────────────────────────────────
 
+-- these lines, each with its line feed
+unfoldable pub textOf : List String → List ℕ
+textOf = flatMap (λ line. charactersOf line ++ (lineFeed ∷ []))
+
 unfoldable pub wholeCaseInput : List ℕ
-wholeCaseInput = charactersOf "0102513100000000000003e8\n04025131000000000000012c\n05000000000000000100000000000000fa\n07\n"
+wholeCaseInput =
+    textOf
+    ("0102513100000000000003e8"
+    ∷ "04025131000000000000012c"
+    ∷ "05000000000000000100000000000000fa"
+    ∷ "07"
+    ∷ [])
 
 unfoldable pub wholeCaseOutput : List ℕ
-wholeCaseOutput = charactersOf "00\n0000000000000002bc0000000000000001\n0000000000000002ee00000000000000fa\n0080000000000000030000000000000000000102513100000000000003e800000000000002ee000000000000000000000000000000fa\n"
+wholeCaseOutput =
+    textOf
+    ("00"
+    ∷ "0000000000000002bc0000000000000001"
+    ∷ "0000000000000002ee00000000000000fa"
+    ∷ "0080000000000000030000000000000000000102513100000000000003e800000000000002ee000000000000000000000000000000fa"
+    ∷ [])

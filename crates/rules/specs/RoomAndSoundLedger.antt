@@ -1,4 +1,4 @@
--- Document 01, "Room and the sound ledger".
+-- Document 01, section "Room and the sound ledger".
 use mathlib.Core.Path.{_≡_}
 use mathlib.Core.Logic.{_⊎_, _≢_}
 use mathlib.Core.Bool.{Bool, true, false, cond, _&&_}
@@ -9,11 +9,11 @@ use lib.Dec.{leb, eqb, isEq}
 use lib.ListN.{length}
 use Rattle.rules.specs.Lists.{first, any, sum, All, Pairwise}
 
--- "M means 2^63 - 1."
+-- the greatest amount, as the paper names it
 unfoldable pub M : ℕ
 M = 2 ^ 63 - 1
 
--- the bytes of a name, the names and the reservations of a ledger, at most
+-- how many bytes a name, and how many names and reservations a ledger has at most
 abbrev pub longestName : ℕ
 longestName = 24
 
@@ -25,7 +25,7 @@ mostReservations = 1024
 
 -- ── names ──────────────────────────────────────────────────────────────────────────────────────
 
--- "A name is a length and 24 bytes": here the bytes within the length
+-- the bytes within the length; a struct that keeps a name has zeros behind them
 abbrev pub Name : Type 0
 Name = List ℕ
 
@@ -36,7 +36,7 @@ pub record IsName (a : Name) : Type 0 where
   pub fits : length a ≤ longestName
   pub bytes : All IsByte a
 
--- "Names are ordered by bytes, a prefix first."
+-- byte by byte, and a prefix before what it begins
 abbrev pub thenBy : Ordering → Ordering → Ordering
 thenBy Ordering·lt o = Ordering·lt
 thenBy Ordering·eq o = o
@@ -53,14 +53,14 @@ same a b = isEq (order a b)
 
 -- ── the ledger ─────────────────────────────────────────────────────────────────────────────────
 
--- "each account has remaining, reserved and committed at least 0": the amounts of an account are natural numbers
+-- natural numbers, since no amount of a sound account is negative
 pub record Account : Type 0 where
   pub initial : ℕ
   pub remaining : ℕ
   pub reserved : ℕ
   pub committed : ℕ
 
--- What one name has: an account or none, and a limit, "0 (none) or positive"
+-- What one name has: an account or none, and a limit, where 0 is none
 pub record Seat : Type 0 where
   pub account : Option Account
   pub limit : ℕ
@@ -68,7 +68,7 @@ pub record Seat : Type 0 where
 abbrev pub seat : Option Account → ℕ → Seat
 seat c l = record { account = c; limit = l }
 
--- "A name holds a place while it has an account or a limit. Freed places are used again": a ledger lists the places held
+-- A ledger lists the names that have something; one that has nothing any more gives up its place
 pub record Place : Type 0 where
   pub name : Name
   pub seat : Seat
@@ -89,7 +89,7 @@ pub record Booking : Type 0 where
   pub name : Name
   pub amount : ℕ
 
--- "The caller lends room for T names (1 to 256) and R reservations (1 to 1,024)."
+-- T and R are the names and reservations that the lent room is for
 pub record Ledger : Type 0 where
   pub T : ℕ
   pub R : ℕ
@@ -168,53 +168,44 @@ abbrev pub Reserves : ℕ → Option Account → Type 0
 Reserves total none = Unit {0}
 Reserves total (some c) = c .reserved ≡ total
 
--- "bit 63 set and the low 63 bits not zero"
+-- the two parts of a version: the tag in bit 63, the fence in the bits below it
 abbrev pub hasTag : ℕ → Bool
 hasTag v = eqb (v / 2 ^ 63) 1
 
 abbrev pub fenceOf : ℕ → ℕ
 fenceOf v = v % 2 ^ 63
 
--- "A ledger is sound when": a field for each clause, in the paper's order. "Room not in use is zero" is said of lent bytes, where they are
--- decoded; of the ledger it says that no more is in use than was lent.
+-- The paper's clauses on a sound ledger, in its order. The last, on room not in use, is said of lent bytes where they are decoded; of the ledger
+-- it says that no more is in use than was lent
 pub record Sound (L : Ledger) : Type 0 where
-  -- "T and R are in range"
   pub names-in-range : InRange 1 mostNames (L .T)
   pub reservations-in-range : InRange 1 mostReservations (L .R)
   pub names-fit : length (L .places) ≤ L .T
   pub reservations-fit : length (L .bookings) ≤ L .R
-  -- "A name is a length and 24 bytes"; "names ascend strictly"
   pub are-names : All (λ p. IsName (p .name)) (L .places)
   pub names-ascend : Pairwise Before (L .places)
-  -- "each account has remaining, reserved and committed at least 0, adding up exactly to initial, itself at most M"
   pub accounts-add-up : All (λ p. AddsUp (p .seat .account)) (L .places)
-  -- "limit is 0 (none) or positive": a signed 64-bit amount, so at most M
+  -- a limit is a signed 64-bit amount and not negative
   pub limits : All (λ p. p .seat .limit ≤ M) (L .places)
-  -- "a name without an account has zero amounts and a positive limit"
+  -- without an account there is a limit; the amounts of none are not written down at all
   pub places-held : All (λ p. isVacant (p .seat) ≡ false) (L .places)
-  -- "live reservations have strictly ascending ids from 1 to below next id, a positive amount and an existing account"
   pub ids-ascend : Pairwise (λ b c. b .id < c .id) (L .bookings)
   pub ids-in-range : All (λ b. (1 ≤ b .id) × (b .id < L .nextId)) (L .bookings)
   pub amounts-positive : All (λ b. 0 < b .amount) (L .bookings)
   pub accounts-exist : All (λ b. hasAccount (seatIn (b .name) (L .places) .account) ≡ true) (L .bookings)
-  -- "each account's reserved is the sum of its live reservations"
   pub reserved-is-sum : All (λ p. Reserves (reservedFor (p .name) (L .bookings)) (p .seat .account)) (L .places)
-  -- "next id is 1 to M"
   pub next-id : InRange 1 M (L .nextId)
-  -- "last version is 0 or has bit 63 set and the low 63 bits not zero"
   pub last-version : (L .lastVersion ≡ 0) ⊎ ((hasTag (L .lastVersion) ≡ true) × (fenceOf (L .lastVersion) ≢ 0))
-  -- "the baseline is 0 up to the smaller of M and the committed total"
   pub baseline-in-range : (L .baseline ≤ M) × (L .baseline ≤ committedTotal (L .places))
 
 -- ── a fresh ledger ─────────────────────────────────────────────────────────────────────────────
 
--- "A fresh ledger has no names, next id 1, last version 0, baseline 0"
 unfoldable pub fresh : ℕ → ℕ → Ledger
 fresh t r = record { T = t; R = r; nextId = 1; lastVersion = 0; baseline = 0; places = []; bookings = [] }
 
 abbrev pub isInRange : ℕ → ℕ → ℕ → Bool
 isInRange low high n = leb low n && leb n high
 
--- "making one overwrites the room, or gives 24 exactly when T or R is out of range": none stands for 24
+-- the ledger that is made; none stands for 24
 unfoldable pub made : ℕ → ℕ → Option Ledger
 made t r = cond (isInRange 1 mostNames t && isInRange 1 mostReservations r) (some (fresh t r)) none

@@ -1,4 +1,4 @@
--- Document 01, "Snapshots, migration, certificates".
+-- Document 01, section "Snapshots, migration, certificates".
 use mathlib.Core.Bool.{Bool, true, false, not, cond, _&&_, _||_}
 use mathlib.Core.List.{List, [], _∷_, _++_, flatMap}
 use mathlib.Core.Option.{Option, none, some}
@@ -26,11 +26,11 @@ pub record Snapshot : Type 0 where
   pub active : ℕ
   pub rows : List Row
 
--- the rows of a snapshot, at most
+-- how many rows a snapshot has at most
 abbrev pub mostRows : ℕ
 mostRows = 256
 
--- "All numbers big-endian": a number in so many bytes, and back
+-- a number in so many bytes, the high ones first, and back
 unfoldable pub bytesOf : (size : ℕ) → ℕ → List ℕ
 bytesOf zero n = []
 bytesOf (suc size) n = bytesOf size (n / 256) ++ (n % 256 ∷ [])
@@ -42,7 +42,7 @@ numberFrom soFar (b ∷ bs) = numberFrom (soFar * 256 + b) bs
 abbrev pub numberOf : List ℕ → ℕ
 numberOf bs = numberFrom 0 bs
 
--- "signed in two's complement"
+-- an amount as a word, and back
 abbrev pub twosComplement : ℤ → ℕ
 twosComplement (pos n) = n
 twosComplement (negsuc n) = 2 ^ 64 - suc n
@@ -53,15 +53,14 @@ signed w = cond (ltb w (2 ^ 63)) (pos w) (negsuc (2 ^ 64 - suc w))
 abbrev pub amountBytes : ℤ → List ℕ
 amountBytes z = bytesOf 8 (twosComplement z)
 
--- "name (length byte, bytes)"
 abbrev pub nameBytes : Name → List ℕ
 nameBytes a = length a ∷ a
 
--- "rows of name (length byte, bytes), initial, remaining, reserved, committed"
+-- a row: the name, and the four amounts in the order of the record
 unfoldable pub rowBytes : Row → List ℕ
 rowBytes r = nameBytes (r .name) ++ amountBytes (r .initial) ++ amountBytes (r .remaining) ++ amountBytes (r .reserved) ++ amountBytes (r .committed)
 
--- "Snapshot bytes: version (8), active count (8), row count (2, at most 256), rows"
+-- version and active count in eight bytes each, how many rows in two, and the rows
 unfoldable pub snapshotBytes : Snapshot → List ℕ
 snapshotBytes s = bytesOf 8 (s .version) ++ bytesOf 8 (s .active) ++ bytesOf 2 (length (s .rows)) ++ flatMap rowBytes (s .rows)
 
@@ -118,7 +117,6 @@ readRows (suc count) = do
   rs ← readRows count
   reads (r ∷ rs)
 
--- "row count (2, at most 256)"
 abbrev pub unlessTooMany : ℕ → Reader ℕ
 unlessTooMany count bs = cond (ltb mostRows count) none (reads count bs)
 
@@ -135,7 +133,7 @@ readSnapshot = do
   rows ← readRows count
   reads (record { version = version; active = active; rows = rows })
 
--- "A wrong length or more than 256 rows is 23": bytes that are left over are a wrong length too. none stands for 23
+-- all the bytes, with none left over; none stands for 23
 abbrev pub whole : {A : Type 0} → Option (Reading A) → Option A
 whole none = none
 whole (some r) = cond (eqb (length (r .rest)) 0) (some (r .value)) none
@@ -143,7 +141,7 @@ whole (some r) = cond (eqb (length (r .rest)) 0) (some (r .value)) none
 unfoldable pub snapshotOfBytes : List ℕ → Option Snapshot
 snapshotOfBytes bs = whole (readSnapshot bs)
 
--- A name of more than 24 bytes in such bytes: 19, on any operation that is handed a snapshot
+-- 19 on any operation that is handed a snapshot
 unfoldable pub hasLongName : List Row → Bool
 hasLongName = any (λ r. isTooLong (r .name))
 
@@ -156,7 +154,7 @@ abbrev pub rowAt : Name → Option Account → List Row → List Row
 rowAt a none rs = rs
 rowAt a (some c) rs = rowOf a c ∷ rs
 
--- "Accounts ascend by name": the places do
+-- ascending by name, as the places are
 unfoldable pub accountRows : List Place → List Row
 accountRows [] = []
 accountRows (p ∷ ps) = rowAt (p .name) (p .seat .account) (accountRows ps)
@@ -165,22 +163,22 @@ accountRows (p ∷ ps) = rowAt (p .name) (p .seat .account) (accountRows ps)
 abbrev pub tagged : ℕ → ℕ
 tagged fence = 2 ^ 63 + fence
 
--- "next id grows by 1 and the version is 2^63 plus the new next id, stored as last version"
+-- a snapshot draws an id; its version, kept as the last one, carries the id after that
 abbrev pub afterSnapshot : Ledger → Ledger
 afterSnapshot L = withLastVersion (drawn L) (tagged (drawn L .nextId))
 
 abbrev pub snapshotOf : Ledger → Snapshot
-snapshotOf L = record { version = tagged (suc (L .nextId)); active = length (L .bookings); rows = accountRows (L .places) }
+snapshotOf L = record { version = afterSnapshot L .lastVersion; active = length (L .bookings); rows = accountRows (L .places) }
 
--- "next id M gives 9", of whatever takes a snapshot
+-- 9 for whatever takes a snapshot
 unfoldable pub takingSnapshot : Ledger → Outcome → Outcome
 takingSnapshot L taken = cond (eqb (L .nextId) M) (refused AllocatorExhausted L) taken
 
--- an answer that hands out a snapshot's bytes: "Output too short gives 22"
+-- 22 for whatever hands out a snapshot's bytes
 abbrev pub tooShortFor : (output : ℕ) → Snapshot → Bool
 tooShortFor output s = ltb output (length (snapshotBytes s))
 
--- the output room after an answer: a snapshot's bytes stand at its front and all behind them stays; an answer without them, a refusal among these, changes nothing
+-- The output room after an answer: the bytes of a snapshot stand at its front, and all behind them is as before; so is all where none is handed out
 abbrev pub bytesOfValue : Value → List ℕ
 bytesOfValue (Amount z) = []
 bytesOfValue (Identifier n) = []
@@ -201,7 +199,7 @@ handedOut (v ∷ w ∷ vs) = []
 abbrev pub outputAfter : Reply → List ℕ → List ℕ
 outputAfter r output = handedOut (r .carried) ++ drop (length (handedOut (r .carried))) output
 
--- "Snapshot: next id M gives 9; output too short gives 22; else .."
+-- Rule "Snapshot": 9, then 22, else its bytes
 unfoldable pub snapshot : (output : ℕ) → Ledger → Outcome
 snapshot output L =
     takingSnapshot L
@@ -233,7 +231,7 @@ equals (pos m) (negsuc n) = false
 equals (negsuc m) (pos n) = false
 equals (negsuc m) (negsuc n) = eqb m n
 
--- signed 64 bits
+-- as a signed 64-bit number
 abbrev pub fits64 : ℤ → Bool
 fits64 (pos n) = leb n M
 fits64 (negsuc n) = leb n M
@@ -242,8 +240,7 @@ fits64 (negsuc n) = leb n M
 
 -- Ledger validation, which the paper has before this, ends with conservation, so conservation is defined first.
 
--- "Conservation of one row: the exact sum of remaining, reserved and committed; outside signed 64 bits gives 15. If the sum isn't
--- initial, delta = sum - initial gives 14, or 15 if delta doesn't fit. If remaining is negative, 14 with remaining as delta."
+-- Rule "Conservation of one row": a sum too large, a delta too large, the delta, a negative remaining
 unfoldable pub rowConservation : Row → Option Refusal
 rowConservation r =
     let exact : ℤ = r .remaining +ℤ r .reserved +ℤ r .committed in
@@ -255,14 +252,14 @@ rowConservation r =
     isNegative (r .remaining) gives ConservationViolation (r .name) (r .remaining) else
     passes
 
--- "The first bad row decides."
+-- by the first row that is bad
 unfoldable pub conservation : List Row → Option Refusal
 conservation [] = none
 conservation (r ∷ rs) = andThen (rowConservation r) (conservation rs)
 
 -- ── ledger validation ──────────────────────────────────────────────────────────────────────────
 
--- "then for each row: 11 (name seen earlier), 12 (reserved not 0), 13 for fields 1, 2, 3"
+-- Rule "Ledger validation", for one row; `seen` are the names of the rows before it
 unfoldable pub rowValidation : (seen : List Name) → Row → Option Refusal
 rowValidation seen r =
     any (same (r .name)) seen gives DuplicateTenant (r .name) else
@@ -276,7 +273,7 @@ unfoldable pub rowsValidation : (seen : List Name) → List Row → Option Refus
 rowsValidation seen [] = none
 rowsValidation seen (r ∷ rs) = andThen (rowValidation seen r) (rowsValidation (r .name ∷ seen) rs)
 
--- "Ledger validation: active count above 0 gives 10; then for each row ..; then conservation over all rows (14 or 15)."
+-- .. and for all: first 10, last conservation
 unfoldable pub validation : Snapshot → Option Refusal
 validation s =
     ltb 0 (s .active) gives ActiveReservations (s .active) else
@@ -284,15 +281,15 @@ validation s =
 
 -- ── restore ────────────────────────────────────────────────────────────────────────────────────
 
--- "Restore: version without bit 63 or with low bits 0 gives 13, empty name, field 4, value = version or M if larger"
+-- Rule "Restore", of the version: 13 without its tag or without a fence, carrying no more than M
 unfoldable pub restoreVersion : ℕ → Option Refusal
 restoreVersion v = (not (hasTag v) || eqb (fenceOf v) 0) gives NegativeLedgerField [] versionField (pos (min v M)) else passes
 
--- "The recovery form gives 18 without bit 63, then 17 carrying 0, then the same."
+-- what the recovery form asks of it instead
 unfoldable pub recoveryVersion : ℕ → Option Refusal
 recoveryVersion v = not (hasTag v) gives LegacySnapshotRequiresMigration else eqb (fenceOf v) 0 gives InvalidAllocatorFence 0 else passes
 
--- the rows as places, ascending by name; "It clears live reservations and limits"
+-- the rows as places, ascending by name and without limits
 abbrev pub restoredSeat : Row → Seat
 restoredSeat r = seat (account (natural (r .initial)) (natural (r .remaining)) 0 (natural (r .committed))) 0
 
@@ -300,7 +297,7 @@ unfoldable pub restoredPlaces : List Row → List Place
 restoredPlaces [] = []
 restoredPlaces (r ∷ rs) = put (r .name) (restoredSeat r) (restoredPlaces rs)
 
--- ".. sets next id to the low 63 bits, last version, and the baseline to the committed total or M."
+-- no booking is left, the ids go on at the fence, and what is committed counts as before the baseline
 abbrev pub restored : Ledger → Snapshot → Ledger
 restored L s =
     let ps : List Place = restoredPlaces (s .rows) in
@@ -311,7 +308,7 @@ unfoldable pub orElse : Option Refusal → Ledger → Ledger → Outcome
 orElse none L after = outcome (done []) after
 orElse (some e) L after = refused e L
 
--- "then validation; more rows than T gives 20"
+-- 19 first and 20 last, as everywhere
 unfoldable pub restoreRefusal : (ofVersion : Option Refusal) → (t : ℕ) → Snapshot → Option Refusal
 restoreRefusal ofVersion t s =
     hasLongName (s .rows) gives NameTooLong else
@@ -334,8 +331,7 @@ replyOr (some e) r = replyOf e
 abbrev pub withVersion : ℕ → Snapshot → Snapshot
 withVersion v s = record { version = v; active = s .active; rows = s .rows }
 
--- "Migration: bit 63 set gives 16; fence 0 or above M gives 17; validation; the same snapshot with version 2^63 plus fence.
--- Output too short gives 22."
+-- Rule "Migration": a snapshot without a tag gets one, with this fence; 19 first and 22 last
 unfoldable pub migrate : (output : ℕ) → (fence : ℕ) → Snapshot → Reply
 migrate output fence s =
     let migrated : Snapshot = withVersion (tagged fence) s in
@@ -368,8 +364,7 @@ abbrev pub isNone : Option Refusal → Bool
 isNone none = true
 isNone (some e) = false
 
--- "version, rows, active, balanced, initial total, committed total, representable, since. If either exact total doesn't fit, both are 0
--- and representable and balanced are 0."
+-- Rule "Certificate over a supplied snapshot": where one total is not representable, neither is told
 unfoldable pub certificate : Snapshot → (since : ℤ) → Reply
 certificate s since =
     let representable : Bool = totalsFit (s .rows) in
@@ -384,14 +379,12 @@ certificate s since =
     ∷ Amount since
     ∷ [])
 
--- "Certificate over a supplied snapshot and a given since"
 unfoldable pub certificateOfSnapshot : (since : ℤ) → Snapshot → Reply
 certificateOfSnapshot since s = replyOr (hasLongName (s .rows) gives NameTooLong else passes) (certificate s since)
 
 -- ── certificate of the ledger, conservation proof ──────────────────────────────────────────────
 
--- "Certificate of the ledger: takes a snapshot (9 possible ..). Since is committed total less baseline, and the baseline moves, only if the
--- totals fit and the total is larger; else 0."
+-- Rule "Certificate of the ledger": since is what the total has above the baseline, which then moves up to it; else 0, and it stays
 unfoldable pub certificateOfLedger : Ledger → Outcome
 certificateOfLedger L =
     let s : Snapshot = snapshotOf L in
@@ -401,13 +394,15 @@ certificateOfLedger L =
     (outcome (certificate s (pos (total - L .baseline))) (withBaseline (afterSnapshot L) total))
     (outcome (certificate s (pos 0)) (afterSnapshot L)))
 
--- "Proof: takes a snapshot (9), then 15 if totals don't fit, else version, accounts, active, both totals, 1."
+-- Rule "Proof": 15 leaves the ledger with its snapshot taken
 unfoldable pub conservationProof : Ledger → Outcome
 conservationProof L =
     let s : Snapshot = snapshotOf L in
     takingSnapshot L
     (cond (totalsFit (s .rows))
     (outcome
-    (done (Version (s .version) ∷ Count (length (s .rows)) ∷ Count (s .active) ∷ Amount (initialTotal (s .rows)) ∷ Amount (committedRowsTotal (s .rows)) ∷ YesOrNo true ∷ []))
+    (done
+    (Version (s .version) ∷ Count (length (s .rows)) ∷ Count (s .active)
+    ∷ Amount (initialTotal (s .rows)) ∷ Amount (committedRowsTotal (s .rows)) ∷ YesOrNo true ∷ []))
     (afterSnapshot L))
     (refused AggregateOverflow (afterSnapshot L)))

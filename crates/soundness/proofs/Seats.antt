@@ -9,8 +9,8 @@ use borrow.Author.Tests.{eqb-false, ne-eqb}
 use Rattle.rules.specs.RoomAndSoundLedger.{M, isVacant, hasNothing, AddsUp}
 use Rattle.rules.proofs.Tests.{equal-or-not}
 use Rattle.moves.specs.declared.Seat.{Seat}
-use Rattle.moves.specs.Moves.{accountOf, meaning, kept, keptSeat, SeatSound}
-use Rattle.moves.proofs.Cases.{accountIn, AmountsAddUp, without-account, with-account, amounts-add-up, account-sound}
+use Rattle.moves.specs.Moves.{accountIn, accountOf, meaning, kept, keptSeat, SeatSound}
+use Rattle.moves.proofs.Cases.{AmountsAddUp, without-account, with-account, amounts-add-up, account-sound}
 
 -- a seat that is sound and not empty
 abbrev pub SeatHeld : Seat → Type 0
