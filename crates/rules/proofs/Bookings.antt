@@ -1,4 +1,5 @@
--- Laws of the bookings: what is found by an id, before and after one is added or ended.
+-- Laws of the bookings: what is found by an id, before and after one is added or ended. By induction along the list; an end takes out every match,
+-- so only the law of the sums needs the ids in order.
 use mathlib.Core.Path.{_≡_, refl, sym, _∙_}
 use mathlib.Core.Logic.{_⊎_, inl, inr, _≢_}
 use mathlib.Core.Bool.{true, false, not, cond}

@@ -1,5 +1,6 @@
 -- Two lists in which every airline has the same part, in the same order, hold the same things, each as often: what holds of all in one holds of
 -- all in the other, and every sum over them is the same. So ids drawn airline by airline add up to one next id, whatever the order between them.
+-- By induction on the one list: its head is its airline's first in the other too, and is taken out there.
 use mathlib.Core.Path.{_≡_, refl, sym, _∙_, ap, subst}
 use mathlib.Core.Logic.{_⊎_, inl, inr}
 use mathlib.Core.Bool.{false, cond}

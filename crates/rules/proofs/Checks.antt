@@ -1,4 +1,5 @@
--- What it says of a snapshot and its rows that the checks of a restore pass.
+-- What it says of a snapshot and its rows that the checks of a restore pass. A check that passes leaves its test's opposite and the later checks
+-- (`check-passes`, `both-pass`); the facts are read off one after the other, and then row by row.
 use mathlib.Core.Path.{_≡_, refl, ap}
 use mathlib.Core.Bool.{Bool, true, false, not}
 use mathlib.Core.List.{List, [], _∷_}

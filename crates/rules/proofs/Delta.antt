@@ -1,5 +1,5 @@
 -- Commit's delta, a signed difference, in natural numbers: it is above remaining exactly when actual is above remaining plus the reserved
--- amount, and else remaining less delta is what that sum leaves over actual.
+-- amount, and else remaining less delta is what that sum leaves over actual. Both by whether actual is below what was reserved.
 use mathlib.Core.Path.{_≡_, refl, sym, ap}
 use Prim.Native.Nat.{ℕ, zero, suc, _+_, _-_, _≤_, _<_}
 use native.Mathlib.Omega.{arith}

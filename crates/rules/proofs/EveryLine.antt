@@ -1,5 +1,6 @@
 -- A line of any characters keeps a sound ledger sound, so every ledger that the house program comes to is sound; each line has one answer
--- line; and a frame's answer has room for any snapshot of a sound ledger, so that no frame meets 22.
+-- line; and a frame's answer has room for any snapshot of a sound ledger, so that no frame meets 22. A line holds no operation, or one that fits
+-- (FrameBytes), and those are covered by SnapshotSoundness; the rest is induction over lines, and digits that are no line feed.
 use mathlib.Core.Path.{_≡_, refl, sym, _∙_, ap}
 use mathlib.Core.Bool.{false}
 use mathlib.Core.List.{List, [], _∷_, _++_, append-assoc}
@@ -40,7 +41,7 @@ answers-append l (line ∷ before) later = rw (answers-append (answerToLine l li
 pub own-snapshot-has-room : (L : Ledger) → Sound L → tooShortFor longestSnapshot (snapshotOf L) ≡ false
 own-snapshot-has-room L s = never-too-short (snapshotOf L) (omega (arith, rows-length (L .places), s .names-fit, s .names-in-range .1)) (own-names-short (L .places) (s .are-names))
 
--- "a longer one gets one 23"
+-- 23 whatever it holds
 pub too-long-line : (l : Lent) (line : List ℕ) → longestLine < length line → answerToLine l line ≡ answered (replyOf BadFrame) l
 unfolding answerToLine operationOfLine
 too-long-line l line h = rw (lt-ltb longestLine (length line) h)

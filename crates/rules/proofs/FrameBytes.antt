@@ -1,4 +1,5 @@
--- A frame's line: its bytes have no other line, and an operation read from it lies within what the theorems about operations suppose.
+-- A frame's line: its bytes have no other line, and an operation read from it lies within what the theorems about operations suppose. The digits
+-- are undone pair by pair; what is read fits by the laws of readers (Reading), body by body along the table of codes.
 use mathlib.Core.Path.{_≡_, refl, subst}
 use mathlib.Core.Bool.{true, _&&_}
 use mathlib.Core.List.{List, [], _∷_, _++_}

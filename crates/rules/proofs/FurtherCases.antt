@@ -1,4 +1,5 @@
--- Cases beyond the marked ones, by computation: each answer number that those leave out, the easy slips, and damaged lines.
+-- Cases beyond the marked ones: each answer number that those leave out, the easy slips, and damaged lines. Each table is computed by the definitions
+-- and compared with itself.
 use mathlib.Core.Path.{_≡_, refl}
 use mathlib.Core.Bool.{Bool, true, false}
 use mathlib.Core.Option.{Option, none, some}
@@ -12,8 +13,8 @@ use Rattle.rules.specs.RoomAndSoundLedger.{M, mostNames, mostReservation
 use Rattle.rules.specs.AnswerNumbers.{Amount, Version, Count, YesOrNo, SnapshotBytes, Reply, done, NegativeAmount, InvalidAmount, MissingTenant, MissingReservation, ActiveReservations, DuplicateTenant, GhostReservation, NegativeLedgerField, ConservationViolation, AggregateOverflow, AlreadyRecoveryAware, InvalidAllocatorFence, LegacySnapshotRequiresMigration, NameTooLong, NamesFull, ReservationsFull, UnsoundLedger, replyOf, Lent, sound, unsound, answered, onLent}
 use Rattle.rules.specs.AccountRules.{ensureRule, topUpRule, limitRule, reserveRule, commitRule, releaseRule, readRule, readReservedRule, put, freed, seated, booked, ended, doneWith, perform, settle, AccountOperation, ensure, topUp, limit, reserve, commit, release, readRemaining, readReserved, onName, onBooking, operate, LedgerRead, readCommittedTotal, readAccounts, readLive, readLastVersion, readCommittedSince, readLedger}
 use Rattle.rules.specs.SnapshotsMigrationCertificates.{Row, Snapshot, bytesOf, numberFrom, rowBytes, snapshotBytes, readPart, readNumber, readAmount, readName, readRow, readRows, readCount, readSnapshot, hasLongName, accountRows, tagged, takingSnapshot, snapshot, _gives_else_, andThen, rowConservation, conservation, rowValidation, rowsValidation, validation, restoreVersion, recoveryVersion, restoredPlaces, orElse, restoreRefusal, restore, recoveryRestore, replyOr, migrate, status, exactTotal, certificate, certificateOfSnapshot, certificateOfLedger, conservationProof}
-use Rattle.rules.specs.Frames.{bytesOfLine, Operation, onAccount, takeSnapshot, certifyLedger, proveConservation, restoreFrom, recoverFrom, judge, migrateTo, certify, codes, readOperation, operationOf, answer, replyBytes, lineOfBytes, answerLine, operationOfLine, answerToLine, pieces, counted, linesOf, answersToLines, house}
-use Rattle.rules.specs.MarkedCases.{charactersOf, Q1, Case, case, with100, granted, lastAnswer, ran}
+use Rattle.rules.specs.Frames.{bytesOfLine, Operation, onAccount, takeSnapshot, certifyLedger, proveConservation, restoreFrom, recoverFrom, judge, migrateTo, certify, codes, readOperation, operationOf, answer, replyBytes, lineOfBytes, answerLine, operationOfLine, answerToLine, pieces, counted, linesOf, answersToLines, house, lineFeed}
+use Rattle.rules.specs.MarkedCases.{charactersOf, Q1, Case, case, with100, granted, lastAnswer, ran, textOf}
 
 abbrev Q2 : Name
 Q2 = charactersOf "Q2"
@@ -253,12 +254,46 @@ line-cases = refl
 -- ── a desk's lines ─────────────────────────────────────────────────────────────────────────────
 
 -- each operation of the table, the answers that carry a name, a field, a count or a fence, and a last line without a line feed
-deskInput : List ℕ
-deskInput = charactersOf "0102513100000000000003e8\n0202513100000000000000c8\n030251310000000000000032\n040251310000000000000032\n060000000000000001\n0b\n0d\n08800000000000000700000000000000010000\n0880000000000000070000000000000000000202513100000000000000000000000000000000000000000000000000000000000000000251310000000000000000000000000000000000000000000000000000000000000000\n088000000000000007000000000000000000010251310000000000000005000000000000000000000000000000050000000000000000\n08800000000000000700000000000000000001025131000000000000000000000000000000000000000000000000fffffffffffffffc\n08000000000000000500000000000000000000\n08800000000000000700000000000000000001025131000000000000000a000000000000000700000000000000000000000000000001\n08800000000000000700000000000000000001025131000000000000000a000000000000000700000000000000000000000000000003\n09000000000000000700000000000000000000\n09800000000000000000000000000000000000\n09800000000000000900000000000000000001025131000000000000000a000000000000000700000000000000000000000000000003\n0a0000000000000005000000000000000900000000000000000001025131000000000000000a000000000000000700000000000000000000000000000003\n0a0000000000000000000000000000000900000000000000000000\n0c0000000000000006000000000000000100000000000000020001025131000000000000000a000000000000000700000000000000000000000000000001\n0e000000000000000000000000000000000001025131000000000000000a000000000000000700000000000000000000000000000001\n0500000000000000000000000000000000\n05ffffffffffffffffffffffffffffffff\n07"
+record Exchange : Type 0 where
+  line : String
+  answer : String
 
-deskOutput : List ℕ
-deskOutput = charactersOf "00\n0000000000000000c800000000000004b000000000000004b0\n00\n00000000000000047e0000000000000001\n0000000000000004b00000000000000032\n008000000000000003000000000000000100000000000000000100000000000004b00000000000000000010000000000000000\n0080000000000000040000000000000001000000000000000000000000000004b0000000000000000001\n0a0000000000000001\n0b025131\n0c0251310000000000000005\n0d02513103fffffffffffffffc\n0d00040000000000000005\n0e025131fffffffffffffffe\n00\n12\n110000000000000000\n00\n00800000000000000500000000000000000001025131000000000000000a000000000000000700000000000000000000000000000003\n110000000000000000\n0000000000000000010000000000000001000000000000000200000000000000000a0000000000000001010000000000000006\n0e025131fffffffffffffffe\n07\n02\n00800000000000000a00000000000000000001025131000000000000000a000000000000000700000000000000000000000000000003\n"
+abbrev exchange : String → String → Exchange
+exchange line answer = record { line = line; answer = answer }
 
-desk-lines : house deskInput ≡ deskOutput
-unfolding deskInput deskOutput first any keep sum M order same holdsPlace seatIn committedTotal fresh onLent ensureRule topUpRule limitRule reserveRule commitRule releaseRule put freed seated booked ended perform settle onName onBooking operate bytesOf numberFrom rowBytes flatMap snapshotBytes readPart readNumber readAmount readName readRow readRows readCount readSnapshot hasLongName accountRows takingSnapshot snapshot _gives_else_ andThen rowConservation conservation rowValidation rowsValidation validation restoreVersion recoveryVersion restoredPlaces restoreRefusal orElse restore recoveryRestore replyOr migrate status exactTotal certificate certificateOfSnapshot certificateOfLedger conservationProof bytesOfLine codes readOperation operationOf answer replyBytes lineOfBytes answerLine operationOfLine answerToLine pieces counted linesOf answersToLines house charactersOf
+deskLines : List Exchange
+deskLines =
+    exchange "0102513100000000000003e8" "00"
+    ∷ exchange "0202513100000000000000c8" "0000000000000000c800000000000004b000000000000004b0"
+    ∷ exchange "030251310000000000000032" "00"
+    ∷ exchange "040251310000000000000032" "00000000000000047e0000000000000001"
+    ∷ exchange "060000000000000001" "0000000000000004b00000000000000032"
+    ∷ exchange "0b" "008000000000000003000000000000000100000000000000000100000000000004b00000000000000000010000000000000000"
+    ∷ exchange "0d" "0080000000000000040000000000000001000000000000000000000000000004b0000000000000000001"
+    ∷ exchange "08800000000000000700000000000000010000" "0a0000000000000001"
+    ∷ exchange "0880000000000000070000000000000000000202513100000000000000000000000000000000000000000000000000000000000000000251310000000000000000000000000000000000000000000000000000000000000000" "0b025131"
+    ∷ exchange "088000000000000007000000000000000000010251310000000000000005000000000000000000000000000000050000000000000000" "0c0251310000000000000005"
+    ∷ exchange "08800000000000000700000000000000000001025131000000000000000000000000000000000000000000000000fffffffffffffffc" "0d02513103fffffffffffffffc"
+    ∷ exchange "08000000000000000500000000000000000000" "0d00040000000000000005"
+    ∷ exchange "08800000000000000700000000000000000001025131000000000000000a000000000000000700000000000000000000000000000001" "0e025131fffffffffffffffe"
+    ∷ exchange "08800000000000000700000000000000000001025131000000000000000a000000000000000700000000000000000000000000000003" "00"
+    ∷ exchange "09000000000000000700000000000000000000" "12"
+    ∷ exchange "09800000000000000000000000000000000000" "110000000000000000"
+    ∷ exchange "09800000000000000900000000000000000001025131000000000000000a000000000000000700000000000000000000000000000003" "00"
+    ∷ exchange "0a0000000000000005000000000000000900000000000000000001025131000000000000000a000000000000000700000000000000000000000000000003" "00800000000000000500000000000000000001025131000000000000000a000000000000000700000000000000000000000000000003"
+    ∷ exchange "0a0000000000000000000000000000000900000000000000000000" "110000000000000000"
+    ∷ exchange "0c0000000000000006000000000000000100000000000000020001025131000000000000000a000000000000000700000000000000000000000000000001" "0000000000000000010000000000000001000000000000000200000000000000000a0000000000000001010000000000000006"
+    ∷ exchange "0e000000000000000000000000000000000001025131000000000000000a000000000000000700000000000000000000000000000001" "0e025131fffffffffffffffe"
+    ∷ exchange "0500000000000000000000000000000000" "07"
+    ∷ exchange "05ffffffffffffffffffffffffffffffff" "02"
+    ∷ exchange "07" "00800000000000000a00000000000000000001025131000000000000000a000000000000000700000000000000000000000000000003"
+    ∷ []
+
+inputOf : List Exchange → List ℕ
+inputOf [] = []
+inputOf (e ∷ []) = charactersOf (e .line)
+inputOf (e ∷ next ∷ es) = charactersOf (e .line) ++ (lineFeed ∷ inputOf (next ∷ es))
+
+desk-lines : house (inputOf deskLines) ≡ textOf (map (λ e. e .answer) deskLines)
+unfolding deskLines inputOf textOf first any keep sum M order same holdsPlace seatIn committedTotal fresh onLent ensureRule topUpRule limitRule reserveRule commitRule releaseRule put freed seated booked ended perform settle onName onBooking operate bytesOf numberFrom rowBytes flatMap snapshotBytes readPart readNumber readAmount readName readRow readRows readCount readSnapshot hasLongName accountRows takingSnapshot snapshot _gives_else_ andThen rowConservation conservation rowValidation rowsValidation validation restoreVersion recoveryVersion restoredPlaces restoreRefusal orElse restore recoveryRestore replyOr migrate status exactTotal certificate certificateOfSnapshot certificateOfLedger conservationProof bytesOfLine codes readOperation operationOf answer replyBytes lineOfBytes answerLine operationOfLine answerToLine pieces counted linesOf answersToLines house charactersOf
 desk-lines = refl

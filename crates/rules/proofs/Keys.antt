@@ -1,6 +1,6 @@
 -- Lists in which each has a key of its own: places by name, bookings and notes by id. What is found by a key is then all there is to know of
--- such a list: with the keys in ascending order, two lists in which every key finds the same are one list. The reordering theorem compares
--- two ledgers by what each airline finds in them, and this turns that into their equality.
+-- such a list: with the keys in ascending order, two lists in which every key finds the same are one list, by induction on both, since the least
+-- keys find each other. The reordering theorem compares two ledgers by what each airline finds in them, and this turns that into their equality.
 use mathlib.Core.Path.{_≡_, refl, sym, _∙_, ap, ap₂, subst}
 use mathlib.Core.Bool.{Bool, true, false}
 use mathlib.Core.List.{List, [], _∷_, map}

@@ -1,4 +1,4 @@
--- Laws of the functions and predicates on lists.
+-- Laws of the functions and predicates on lists, by induction along the list and a test of its head.
 use mathlib.Core.Path.{_≡_, refl, subst}
 use mathlib.Core.Bool.{Bool, true, false, cond}
 use mathlib.Core.List.{List, [], _∷_, _++_, flatMap, append-assoc, append-nil}

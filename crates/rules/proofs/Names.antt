@@ -1,4 +1,4 @@
--- The order of names is a strict total order, and `same` is equality.
+-- The order of names is a strict total order, and `same` is equality: by induction along the bytes, from the order of the first two.
 use mathlib.Core.Path.{_≡_, refl, _∙_, ap}
 use mathlib.Core.Logic.{_⊎_, inl, inr, _≢_}
 use mathlib.Core.Bool.{true, false}

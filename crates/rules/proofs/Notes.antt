@@ -1,5 +1,5 @@
--- Laws of a run's notes: which id stands for which reference, with one more grant noted, and back from the id to the reference. They make the
--- pairing of two runs' ids a pairing of their reservations.
+-- Laws of a run's notes: which id stands for which reference, with one more grant noted, and back from the id to the reference. No two notes share
+-- an id or a reference, so a note found by the one is the note found by the other: the pairing of two runs' ids pairs their reservations.
 use mathlib.Core.Path.{_≡_, refl, sym, _∙_, ap, subst}
 use mathlib.Core.Logic.{_⊎_, inl, inr, _≢_}
 use mathlib.Core.Bool.{true, false, cond, _&&_}

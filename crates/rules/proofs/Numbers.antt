@@ -1,4 +1,5 @@
--- Laws of the numbers in bytes: big-endian, and signed in two's complement, there and back.
+-- Laws of the numbers in bytes, there and back: big-endian by induction over the bytes, a division by 256 at a time; two's complement by the
+-- sign of the number or the high bit of the word.
 use mathlib.Core.Path.{_≡_, refl, _∙_}
 use mathlib.Core.List.{List, [], _∷_, _++_, append-assoc, append-nil}
 use Prim.Native.Nat.{ℕ, zero, suc, _+_, _-_, _*_, _/_, _%_, _^_, _≤_, _<_}

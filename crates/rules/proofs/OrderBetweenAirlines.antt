@@ -1,4 +1,6 @@
--- Demand 3: the order between airlines does not matter.
+-- Demand 3: the order between airlines does not matter. What an airline is answered, what becomes of its own part and how many ids it draws depend on
+-- its own operations alone (OwnRuns), and these are the same in both orders. Places in which every name has the same seat are equal (SameTables), so
+-- are bookings that answer to each other (Counterparts), and ids drawn airline by airline add up to one next id (ByAirline).
 use mathlib.Core.Path.{_≡_, sym, _∙_, ap, subst}
 use mathlib.Core.Bool.{false}
 use Prim.Native.Nat.{ℕ, _+_}
@@ -27,10 +29,8 @@ pub same-operations : (count : AccountOperation Reference → ℕ) (xs ys : Run)
 unfolding ownOperations
 same-operations count xs ys order = same-sum airlineOf count xs ys order
 
--- "Take a run of account operations .. from a sound ledger and reorder it, keeping each airline's own order. .. If neither order meets 20, 21 or the
--- end of the ids .., then all answers agree except the id numbers granted, and the final ledgers agree once those ids are paired".
--- It is stronger than asked in one point: no premise says that a settlement names a reservation live at the start or an earlier grant of its
--- airline. One that names no reservation of its airline is answered alike in both orders.
+-- The theorem. It is stronger than asked in one point: no premise says that a settlement names a reservation live at the start or an earlier grant
+-- of its airline. One that names no reservation of its airline is answered alike in both orders.
 pub order-between-airlines : (L : Ledger) → Sound L → (xs ys : Run) → All AccountOperationFits xs → KeepsOwnOrder xs ys → runMeets (start L) xs ≡ false → runMeets (start L) ys ≡ false → Agree L xs ys
 order-between-airlines L sound xs ys fits order clear clear′ = record {
   answers = λ a. own a .answers ∙ ap (plannedAnswers (ownPart a (start L))) (order a) ∙ sym (own′ a .answers);

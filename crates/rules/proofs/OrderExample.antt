@@ -1,4 +1,5 @@
 -- Two orders of one run, computed: the airlines' messages change places, the ids granted differ, and the answers and the paired ledgers are equal.
+-- The premises of the theorem hold of it, so they can be met.
 use mathlib.Core.Path.{_≡_, refl, sym, _∙_, subst}
 use mathlib.Core.Logic.{_⊎_, inl, inr}
 use mathlib.Core.Bool.{false}

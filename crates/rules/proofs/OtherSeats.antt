@@ -1,4 +1,5 @@
--- No operation of an airline changes any other airline's seat, on any ledger, sound or not.
+-- No operation of an airline changes any other airline's seat, on any ledger, sound or not: whatever its rule decides, places are only written under
+-- the airline's own name.
 use mathlib.Core.Path.{_≡_, refl, sym, ap}
 use mathlib.Core.Logic.{_≢_}
 use mathlib.Core.Bool.{false}

@@ -1,5 +1,5 @@
 -- The second half of the road: airlines do not meet. A plan of one airline changes that airline's own part by that part alone, and leaves the own
--- part of every other airline as it was.
+-- part of every other airline as it was. Plan by plan, for the seat, the live amounts and the grants: the id of one reference finds no other's booking.
 use mathlib.Core.Path.{_≡_, refl, sym, _∙_, ap, subst}
 use mathlib.Core.Logic.{_⊎_, inl, inr, _≢_}
 use mathlib.Core.Bool.{false, cond}

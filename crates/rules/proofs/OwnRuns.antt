@@ -1,6 +1,7 @@
 -- The road's end: over a whole run, what an airline is answered, what becomes of its own part and how many ids its operations draw depend on
 -- its own operations alone. Two runs in which an airline has the same operations in the same order are therefore alike to it, and so is a run
--- from which every other airline's operations are taken out.
+-- from which every other airline's operations are taken out. By induction over the run: each operation enacts its plan (Plans), and the airline
+-- is the plan's own or another (OwnParts).
 use mathlib.Core.Path.{_≡_, refl, sym, _∙_, ap, ap₂}
 use mathlib.Core.Bool.{false, cond}
 use mathlib.Core.List.{List, [], _∷_}

@@ -1,5 +1,6 @@
 -- A sound ledger's own snapshot: it fits its bytes, it is balanced, and restoring one that was taken with no live booking gives back the
--- same accounts, next id and version.
+-- same accounts, next id and version. Each row is the account of a place, so what soundness says of every place is said of every row; then every
+-- check passes, and rows put back in name order are the places again.
 use mathlib.Core.Path.{_≡_, refl, sym, _∙_, ap, subst}
 use mathlib.Core.Bool.{false, cond}
 use mathlib.Core.List.{List, [], _∷_}
@@ -90,7 +91,7 @@ unfolding conservation andThen
 rows-balanced [] h = refl
 rows-balanced (r ∷ rs) (h, k) = rw h (rows-balanced rs k)
 
--- "a sound ledger's own snapshot is balanced"
+-- so it is balanced
 pub own-snapshot-balanced : (L : Ledger) → Sound L → conservation (snapshotOf L .rows) ≡ none
 own-snapshot-balanced L s = rows-balanced (accountRows (L .places)) (rows-all (λ r. rowConservation r ≡ none) (L .places) (all-map (λ p. AddsUp (p .seat .account)) _ (λ p h. go (p .name) (p .seat .account) h) (L .places) (s .accounts-add-up)))
   where
@@ -213,8 +214,7 @@ module _ (L : Ledger) (sound : Sound L) (idle : L .bookings ≡ []) (more : next
       last-version = refl;
     })
 
-    -- "restoring a snapshot taken with no live booking gives back the same accounts, next id and version", by either form of restore, into
-    -- any ledger that has room for the accounts
+    -- by either form of restore, into any ledger that has room for the accounts
     pub restore-gives-back : GivesBack L (restore K (snapshotOf L))
     unfolding restore
     restore-gives-back = given-back _ own-version

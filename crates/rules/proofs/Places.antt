@@ -1,4 +1,5 @@
--- Laws of the places: what a seat written, or freed, means to every name's seat, to the order, the count and the committed total.
+-- Laws of the places: what a seat written, or freed, means to every name's seat, to the order, the count and the committed total. By induction
+-- along the places, and by the order of the written name and the first.
 use mathlib.Core.Path.{_≡_, refl, sym, _∙_, ap, subst}
 use mathlib.Core.Bool.{Bool, true, false, not, cond, _||_, false≢true}
 use mathlib.Core.List.{List, [], _∷_}

@@ -1,6 +1,7 @@
 -- The first half of the road: what an operation does, and answers, is a plan made from its airline's own part of the stage alone (its seat, the
 -- amounts of its live reservations by reference, its number of grants), as long as the operation meets none of 20, 21 and the end of the ids.
--- A plan knows no id: the one that it draws, and the one that it ends, are read off the stage where it is enacted.
+-- A plan knows no id: the one that it draws, and the one that it ends, are read off the stage where it is enacted. A move or a settlement enacts its
+-- plan case by case, and only a rule that would draw an id asks how far the ids are (`asks-last`).
 use mathlib.Core.Path.{_≡_, refl, sym, _∙_, ap, subst}
 use mathlib.Core.Bool.{Bool, true, false, not, cond, _&&_, _||_}
 use mathlib.Core.List.{List, [], _∷_, _++_}

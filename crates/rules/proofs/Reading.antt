@@ -1,4 +1,5 @@
--- Readers of bytes, both ways: what was written is read back, and what is read was written by nothing else.
+-- Readers of bytes, both ways: what was written is read back, and what is read was written by nothing else. Two readers in a row do so where each
+-- does (`back-then`, `only-then`), so the proof for a record follows its reader line by line.
 use mathlib.Core.Path.{_≡_, refl, sym, _∙_, ap, subst, subst₂}
 use mathlib.Core.List.{List, [], _∷_, _++_, append-assoc, append-nil}
 use mathlib.Core.Option.{some}

@@ -1,5 +1,5 @@
 -- Every answer is done or one of the table's refusals; a refusal changes nothing, save the two marked rows: 6 with a cost above 0 draws an id,
--- and 15 from a conservation proof has taken its snapshot.
+-- and 15 from a conservation proof has taken its snapshot. Move by move, and rule by rule only to see that no other than a reserve loses an id.
 use mathlib.Core.Path.{_≡_, refl}
 use mathlib.Core.Bool.{Bool, _&&_}
 use mathlib.Core.List.{List}
@@ -17,7 +17,7 @@ use Rattle.rules.specs.Frames.{Operation, onAccount, takeSnapshot, certi
 use Rattle.rules.specs.Refusals.{MayAnswer, accepted, changed-nothing, drew-an-id, took-a-snapshot}
 use Rattle.rules.proofs.Tests.{by-test}
 
--- "0 is done", and the refusals are numbered 1 to 24
+-- no refusal is taken for done, and the table ends at 24
 pub refusal-number : (e : Refusal) → InRange 1 24 (replyOf e .number)
 refusal-number (NegativeAmount value) = omega arith
 refusal-number InvalidAmount = omega arith

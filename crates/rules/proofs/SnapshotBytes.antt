@@ -1,4 +1,5 @@
--- A snapshot's bytes are read back as the snapshot, are the only ones read so, and at 256 rows are no longer than an answer line has room for.
+-- A snapshot's bytes are read back as the snapshot, are the only ones read so, and with all rows are no longer than an answer line has room for:
+-- the first two by the laws of readers, field by field, the last by adding up the rows.
 use mathlib.Core.Path.{_≡_, refl, sym, ap}
 use mathlib.Core.Bool.{false}
 use mathlib.Core.List.{List, [], _∷_, _++_, flatMap, append-assoc}

@@ -1,4 +1,5 @@
--- Snapshots, certificates, conservation proofs and restores keep a sound ledger sound; so does every operation, and every line of characters.
+-- Snapshots, certificates, conservation proofs and restores keep a sound ledger sound; so does every operation, and every line of characters. What
+-- takes a snapshot moves only the head; a restore's rows pass the checks (Checks), so each of them is a sound account with nothing reserved.
 use mathlib.Core.Path.{_≡_, refl, _∙_, ap, subst}
 use mathlib.Core.Logic.{inl, inr, _≢_}
 use mathlib.Core.Bool.{Bool, true, false, _&&_}
@@ -26,7 +27,7 @@ use Rattle.rules.proofs.Checks.{Restorable, VersionPasses, restore-vers
 
 -- ── a version and its fence ────────────────────────────────────────────────────────────────────
 
--- "2^63 plus the new next id": its tag, and its fence
+-- the tag and the fence of a version made of both
 pub tagged-tag : (n : ℕ) → n ≤ M → hasTag (tagged n) ≡ true
 unfolding M
 tagged-tag n h = eq-eqb ((2 ^ 63 + n) / 2 ^ 63) 1 (omega arith)
@@ -195,7 +196,7 @@ unsound-stays (judge s) = tt
 unsound-stays (migrateTo fence s) = tt
 unsound-stays (certify since s) = tt
 
--- "A sound ledger stays sound"
+-- whatever is asked
 pub answer-sound : (l : Lent) → LentSound l → (x : Operation) → OperationFits x → LentSound (answer l x .lent)
 answer-sound (sound L) known x f = answer-keeps L known x f
 answer-sound unsound known x f = unsound-stays x

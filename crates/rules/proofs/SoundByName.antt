@@ -1,5 +1,6 @@
 -- A sound ledger name by name: for every name, the account that it has, or that nothing is reserved for it. This is the paper's soundness,
--- which goes place by place, in the form in which one airline's change is seen to leave every other alone. The two are proved equal.
+-- which goes place by place, in the form in which one airline's change is seen to leave every other alone. Each gives the other: a name's seat is
+-- that of its place, found by its name, and each place is its name's.
 use mathlib.Core.Path.{_≡_, refl, sym, ap, subst}
 use mathlib.Core.Logic.{_⊎_, _≢_}
 use mathlib.Core.Bool.{true, false, cond}

@@ -1,4 +1,5 @@
--- Every account operation keeps a sound ledger sound: a small lemma for each rule on its airline's own account, and one for each kind of move.
+-- Every account operation keeps a sound ledger sound: a small lemma for each rule on its airline's own account, whatever stands for a reservation
+-- (`rule-sound`), and one for each kind of move, name by name.
 use mathlib.Core.Path.{_≡_, refl, sym, _∙_, ap, subst}
 use mathlib.Core.Logic.{_⊎_, inl, inr, _≢_}
 use mathlib.Core.Bool.{Bool, true, false, cond, _&&_, _||_}

@@ -63,7 +63,7 @@ module _ (t : Stage) (orderly : Orderly t) where
       go (inl z) = none-some (sym none-at-zero ∙ ap (λ i. booked i (t .ledger .bookings)) (sym z) ∙ e)
       go (inr f) = f
 
-  -- "A settlement belongs to its reservation's airline": the reservation that a reference finds is its airline's
+  -- the reservation that a reference finds is its airline's
   pub of-its-airline : (k : Reference) (b : Booking) → bookingOf k t ≡ some b → b .name ≡ k .airline
   unfolding bookingOf
   of-its-airline k b e =

@@ -1,4 +1,5 @@
--- `moves::commit` meets its contract: what was booked is a part of what the account adds up to, so all that delta leaves or returns fits.
+-- `moves::commit`: a lemma of Cases for each return. What was booked is a part of what the account adds up to, so all that delta leaves or returns
+-- fits, and the new amounts add up again.
 use mathlib.Core.Path.{_≡_, _∙_, ap}
 use Prim.Native.Nat.{ℕ, _+_, _≤_}
 use native.Mathlib.Omega.{arith}

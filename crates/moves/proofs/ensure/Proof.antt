@@ -1,4 +1,4 @@
--- `moves::ensure` meets its contract.
+-- `moves::ensure`: a lemma of Cases for each return. A signed 64-bit amount that is not negative is at most M, so the account opened is sound.
 use mathlib.Core.Path.{_≡_}
 use native.Mathlib.Omega.{arith}
 use borrow.Author.Needs.{needs}

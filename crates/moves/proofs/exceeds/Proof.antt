@@ -1,4 +1,4 @@
--- `moves::exceeds` meets its contract.
+-- `moves::exceeds`: either way of the first test decides the rule's first test, and the second is the code's.
 use borrow.Author.Tests.{lt-ltb, le-ltb}
 use Rattle.moves.proofs.exceeds.Statement.{statement}
 use Rattle.moves.proofs.exceeds.Tie as tie

@@ -1,4 +1,4 @@
--- `moves::limit` meets its contract.
+-- `moves::limit`: a lemma of Cases for each return. The seat keeps its one form, since that says of the limit only what it is (`limit-sound`).
 use mathlib.Core.Path.{_≡_}
 use native.Mathlib.Omega.{arith}
 use borrow.Author.Needs.{needs}

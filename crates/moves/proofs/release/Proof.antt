@@ -1,4 +1,4 @@
--- `moves::release` meets its contract: what was booked is a part of what the account adds up to, so it fits remaining.
+-- `moves::release`: a lemma of Cases for each return. What was booked is a part of what the account adds up to, so it fits remaining.
 use native.Mathlib.Omega.{arith}
 use borrow.Author.Needs.{needs}
 use Rattle.rules.specs.RoomAndSoundLedger.{M}

@@ -1,4 +1,4 @@
--- `moves::top_up` meets its contract: what is added to initial within M can be added to remaining, a part of it.
+-- `moves::top_up`: a lemma of Cases for each return. What is added to initial within M can be added to remaining, a part of it.
 use mathlib.Core.Path.{_≡_}
 use Prim.Native.Nat.{ℕ, _+_, _≤_}
 use native.Mathlib.Omega.{arith}
