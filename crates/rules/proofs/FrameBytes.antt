@@ -13,10 +13,10 @@ use lib.Dec.{leb, ltb, eqb}
 use lib.IntN.{ℤ}
 use lib.ListN.{length}
 use Rattle.rules.specs.Lists.{first, All}
-use Rattle.rules.specs.RoomAndSoundLedger.{Name, IsByte}
+use Rattle.rules.specs.RoomAndSoundLedger.{Name, IsByte, isInRange}
 use Rattle.rules.specs.AccountRules.{AccountOperation, ensure, topUp, limit, reserve}
 use Rattle.rules.specs.SnapshotsMigrationCertificates.{Snapshot, bytesOf}
-use Rattle.rules.specs.Frames.{isBetween, digitOf, byteBefore, bytesOfLine, Operation, restoreFrom, recoverFrom, judge, migrateTo, certify, nameAndAmount, aSnapshot, codes, bodyOf, readOperation, operationOf, characterOf, lineOfBytes, operationOfBytes, longestLine, operationOfLine}
+use Rattle.rules.specs.Frames.{digitOf, byteBefore, bytesOfLine, Operation, restoreFrom, recoverFrom, judge, migrateTo, certify, nameAndAmount, aSnapshot, codes, bodyOf, readOperation, operationOf, characterOf, lineOfBytes, operationOfBytes, longestLine, operationOfLine}
 use Rattle.rules.specs.Domain.{IsAmount, IsBytes, AccountOperationFits, SnapshotFits, OperationFits}
 use Rattle.rules.proofs.Tests.{by-test, by-option, and-true, none-some}
 use Rattle.rules.proofs.Lists.{first-all}
@@ -25,7 +25,7 @@ use Rattle.rules.proofs.SnapshotBytes.{readSnapshot-only}
 
 -- ── digits and their characters ────────────────────────────────────────────────────────────────
 
-between : (low high c : ℕ) → isBetween low high c ≡ true → (low ≤ c) × (c ≤ high)
+between : (low high c : ℕ) → isInRange low high c ≡ true → (low ≤ c) × (c ≤ high)
 between low high c e = let (a, b) = and-true (leb low c) (leb c high) e in (leb-true low c a, leb-true c high b)
 
 digit-of-character : (d : ℕ) → d < 16 → digitOf (characterOf d) ≡ d
@@ -36,9 +36,9 @@ digit-of-character d h = by-test (λ c. digitOf c ≡ d) (ltb d 10)
     rw (le-leb 48 (87 + d) (omega arith), lt-leb (87 + d) 57 (omega arith), le-leb 97 (87 + d) (omega arith), le-leb (87 + d) 102 (omega arith)) (omega arith))
 
 character-of-digit : (c : ℕ) → digitOf c < 16 → characterOf (digitOf c) ≡ c
-character-of-digit c = by-test (λ d. d < 16 → characterOf d ≡ c) (isBetween 48 57 c)
+character-of-digit c = by-test (λ d. d < 16 → characterOf d ≡ c) (isInRange 48 57 c)
     (λ t h. let (l, m) = between 48 57 c t in rw (lt-ltb (c - 48) 10 (omega arith)) (omega arith))
-    (λ _. by-test (λ d. d < 16 → characterOf d ≡ c) (isBetween 97 102 c)
+    (λ _. by-test (λ d. d < 16 → characterOf d ≡ c) (isInRange 97 102 c)
     (λ t h. let (l, m) = between 97 102 c t in rw (le-ltb (c - 87) 10 (omega arith)) (omega arith))
     (λ _ h. absurd (omega arith)))
 

@@ -8,7 +8,7 @@ use mathlib.Core.List.{List, [], _∷_}
 use Prim.Native.Nat.{ℕ, _+_}
 use native.Mathlib.Omega.{arith}
 use Rattle.rules.specs.Lists.{keep, sum, All}
-use Rattle.rules.specs.RoomAndSoundLedger.{Name, same, Ledger, Sound}
+use Rattle.rules.specs.RoomAndSoundLedger.{Name, same, Ledger, withNextId, withPlaces, withBookings, Sound}
 use Rattle.rules.specs.AccountRules.{AccountOperation, Rule, forName, forReservation, ruleOf}
 use Rattle.rules.specs.Domain.{AccountOperationFits}
 use Rattle.rules.specs.OrderBetweenAirlines.{Reference, Run, airlineOf, Note, Stage, withIdFrom, outcomeAt, identifierIn, onward, after, withoutIds, AirlineAnswer, answerTo, answersOf, ownOperations, ownAnswers, meets, runMeets}
@@ -80,7 +80,7 @@ next-enact t a (ends r s w) = omega arith
 
 -- what no account operation changes: T, R, last version, baseline
 abbrev pub fixedPart : Ledger → Ledger
-fixedPart L = record { T = L .T; R = L .R; nextId = 0; lastVersion = L .lastVersion; baseline = L .baseline; places = []; bookings = [] }
+fixedPart L = withNextId (withPlaces (withBookings L []) []) 0
 
 fixed-enact : (t : Stage) (a : Name) (p : Plan) → fixedPart (enact t a p .ledger) ≡ fixedPart (t .ledger)
 unfolding enact

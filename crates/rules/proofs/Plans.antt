@@ -10,12 +10,13 @@ use Prim.Native.Nat.{ℕ, zero, suc, _+_}
 use lib.Dec.{ltb, eqb}
 use lib.IntN.{ℤ, pos, negsuc}
 use lib.ListN.{length}
-use Rattle.rules.specs.RoomAndSoundLedger.{Name, Account, Seat, Booking, Ledger, withPlaces, withBookings, seatIn, M}
-use Rattle.rules.specs.AnswerNumbers.{Value, Amount, Identifier, Reply, done, Refusal, NegativeAmount, InvalidAmount, MissingTenant, OverflowOfReserve, OverflowOfCommit, OverflowOfTopUp, ExposureLimitExceeded, Insufficient, MissingReservation, Overrun, AllocatorExhausted, ActiveReservations, DuplicateTenant, GhostReservation, NegativeLedgerField, ConservationViolation, AggregateOverflow, AlreadyRecoveryAware, InvalidAllocatorFence, LegacySnapshotRequiresMigration, NameTooLong, NamesFull, ReservationsFull, OutputTooShort, BadFrame, UnsoundLedger, replyOf, Outcome}
-use Rattle.rules.specs.AccountRules.{Move, refuse, tell, write, lose, book, Settlement, leave, end, reserveRule, seated, hasRoom, booked, ended, drawn, doneWith, perform, settle, AccountOperation, ensure, topUp, limit, reserve, commit, release, readRemaining, readInitial, readCommitted, readReserved, isTooLong, named, onName, onBooking, nextIdIsM, forReservation, Rule, ruleOf, apply, forName}
-use Rattle.rules.specs.OrderBetweenAirlines.{Which, grant, Reference, reference, airlineOf, Note, note, idOf, grantsOf, Stage, stage, outcomeAt, identifierIn, grantedId, withGrant, meetsEndOfIds, meets, isAnswer, draws, withIdFrom, wouldDraw, airlineBy}
+use Rattle.rules.specs.RoomAndSoundLedger.{M, Name, Account, Seat, Booking, Ledger, withPlaces, withBookings, seatIn}
+use Rattle.rules.specs.AnswerNumbers.{Value, Amount, Identifier, Reply, done, Refusal, MissingReservation, NameTooLong, NamesFull, ReservationsFull, replyOf, Outcome}
+use Rattle.rules.specs.AccountRules.{Move, refuse, tell, write, lose, book, Settlement, leave, end, reserveRule, seated, hasRoom, booked, ended, drawn, doneWith, perform, settle, AccountOperation, ensure, topUp, limit, reserve, commit, release, readRemaining, readInitial, readCommitted, readReserved, Rule, forName, forReservation, ruleOf, isTooLong, named, onName, onBooking, nextIdIsM, apply}
+use Rattle.rules.specs.OrderBetweenAirlines.{Which, grant, Reference, reference, airlineBy, airlineOf, Note, note, idOf, grantsOf, Stage, stage, withIdFrom, outcomeAt, identifierIn, grantedId, withGrant, isAnswer, draws, wouldDraw, meetsEndOfIds, meets}
 use Rattle.rules.proofs.Tests.{by-test, by-bool, true-false, or-false}
 use Rattle.rules.proofs.Bookings.{booked-id}
+use Rattle.rules.proofs.Refusals.{refusal-grants-nothing}
 
 -- ── an airline's own part of a stage ───────────────────────────────────────────────────────────
 
@@ -106,36 +107,6 @@ pub record Enacts (t : Stage) (a : Name) (o : Outcome) (p : Plan) : Type 0 where
 
 -- ── every operation enacts its plan ────────────────────────────────────────────────────────────
 
--- no refusal of the table carries an id
-refused-grants-nothing : (e : Refusal) → grantedId (replyOf e .carried) ≡ none
-unfolding grantedId identifierIn
-refused-grants-nothing (NegativeAmount value) = refl
-refused-grants-nothing InvalidAmount = refl
-refused-grants-nothing MissingTenant = refl
-refused-grants-nothing (OverflowOfReserve reserved) = refl
-refused-grants-nothing (OverflowOfCommit remaining) = refl
-refused-grants-nothing OverflowOfTopUp = refl
-refused-grants-nothing (ExposureLimitExceeded reserved ceiling) = refl
-refused-grants-nothing (Insufficient remaining required) = refl
-refused-grants-nothing MissingReservation = refl
-refused-grants-nothing (Overrun remaining) = refl
-refused-grants-nothing AllocatorExhausted = refl
-refused-grants-nothing (ActiveReservations count) = refl
-refused-grants-nothing (DuplicateTenant tenant) = refl
-refused-grants-nothing (GhostReservation tenant reserved) = refl
-refused-grants-nothing (NegativeLedgerField tenant field value) = refl
-refused-grants-nothing (ConservationViolation tenant delta) = refl
-refused-grants-nothing AggregateOverflow = refl
-refused-grants-nothing AlreadyRecoveryAware = refl
-refused-grants-nothing (InvalidAllocatorFence fence) = refl
-refused-grants-nothing LegacySnapshotRequiresMigration = refl
-refused-grants-nothing NameTooLong = refl
-refused-grants-nothing NamesFull = refl
-refused-grants-nothing ReservationsFull = refl
-refused-grants-nothing OutputTooShort = refl
-refused-grants-nothing BadFrame = refl
-refused-grants-nothing UnsoundLedger = refl
-
 amounts-grant-nothing : (zs : List ℤ) → grantedId (doneWith zs .carried) ≡ none
 unfolding grantedId identifierIn
 amounts-grant-nothing [] = refl
@@ -148,11 +119,11 @@ unnoted a ns L vs e = ap (λ g. stage L (withGrant a ns g)) e
 performs : (t : Stage) (a : Name) (m : Move) → isAnswer NamesFull (perform (t .ledger) a m) ≡ false → isAnswer ReservationsFull (perform (t .ledger) a m) ≡ false
     → Enacts t a (perform (t .ledger) a m) (ofMove m)
 unfolding perform says enact
-performs t a (refuse e) h k = record { reply = refl; stage = unnoted a (t .notes) _ _ (refused-grants-nothing e) }
+performs t a (refuse e) h k = record { reply = refl; stage = unnoted a (t .notes) _ _ (refusal-grants-nothing e) }
 performs t a (tell zs) h k = record { reply = refl; stage = unnoted a (t .notes) _ _ (amounts-grant-nothing zs) }
 performs t a (write zs s) h k = by-test (λ (o : Outcome). isAnswer NamesFull o ≡ false → Enacts t a o (writes (doneWith zs) s)) (hasRoom a s (t .ledger))
     (λ _ f. record { reply = refl; stage = unnoted a (t .notes) _ _ (amounts-grant-nothing zs) }) (λ _ f. true-false refl f) h
-performs t a (lose e) h k = record { reply = refl; stage = unnoted a (t .notes) _ _ (refused-grants-nothing e) }
+performs t a (lose e) h k = record { reply = refl; stage = unnoted a (t .notes) _ _ (refusal-grants-nothing e) }
 performs t a (book remaining s cost) h k = by-test (λ (o : Outcome). isAnswer ReservationsFull o ≡ false → Enacts t a o (books remaining s cost)) (ltb (length (t .ledger .bookings)) (t .ledger .R))
     (λ _ f. record { reply = refl; stage = unfold grantedId identifierIn in refl }) (λ _ f. true-false refl f) k
 
@@ -166,11 +137,11 @@ settles t k rule mine = go (bookingOf k t) refl
     own = seatIn (k .airline) (t .ledger .places)
 
     decides-none : (x : Settlement) → Enacts t (k .airline) (settle (t .ledger) none x) (ofSettlement (k .which) none x)
-    decides-none (leave e) = record { reply = refl; stage = unnoted (k .airline) (t .notes) _ _ (refused-grants-nothing e) }
-    decides-none (end zs s) = record { reply = refl; stage = unnoted (k .airline) (t .notes) _ _ (refused-grants-nothing MissingReservation) }
+    decides-none (leave e) = record { reply = refl; stage = unnoted (k .airline) (t .notes) _ _ (refusal-grants-nothing e) }
+    decides-none (end zs s) = record { reply = refl; stage = unnoted (k .airline) (t .notes) _ _ (refusal-grants-nothing MissingReservation) }
 
     decides : (b : Booking) → b .name ≡ k .airline → b .id ≡ idOf k (t .notes) → (x : Settlement) → Enacts t (k .airline) (settle (t .ledger) (some b) x) (ofSettlement (k .which) (some (b .amount)) x)
-    decides b p q (leave e) = record { reply = refl; stage = unnoted (k .airline) (t .notes) _ _ (refused-grants-nothing e) }
+    decides b p q (leave e) = record { reply = refl; stage = unnoted (k .airline) (t .notes) _ _ (refusal-grants-nothing e) }
     decides b p q (end zs s) = record {
       reply = refl;
       stage = unnoted (k .airline) (t .notes) _ _ (amounts-grant-nothing zs)

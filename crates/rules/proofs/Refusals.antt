@@ -2,7 +2,7 @@
 -- and 15 from a conservation proof has taken its snapshot. Move by move, and rule by rule only to see that no other than a reserve loses an id.
 use mathlib.Core.Path.{_≡_, refl}
 use mathlib.Core.Bool.{Bool, _&&_}
-use mathlib.Core.List.{List}
+use mathlib.Core.List.{List, []}
 use mathlib.Core.Option.{Option, none, some}
 use Prim.Native.Nat.{ℕ, zero, suc, _+_}
 use native.Mathlib.Omega.{arith}
@@ -12,39 +12,51 @@ use lib.ListN.{length}
 use Rattle.rules.specs.RoomAndSoundLedger.{M, Name, Account, Booking, Ledger, committedTotal, InRange}
 use Rattle.rules.specs.AnswerNumbers.{Reply, Refusal, NegativeAmount, InvalidAmount, MissingTenant, OverflowOfReserve, OverflowOfCommit, OverflowOfTopUp, ExposureLimitExceeded, Insufficient, MissingReservation, Overrun, AllocatorExhausted, ActiveReservations, DuplicateTenant, GhostReservation, NegativeLedgerField, ConservationViolation, AggregateOverflow, AlreadyRecoveryAware, InvalidAllocatorFence, LegacySnapshotRequiresMigration, NameTooLong, NamesFull, ReservationsFull, OutputTooShort, BadFrame, UnsoundLedger, replyOf, Outcome, sound, Answered, answered, onLent}
 use Rattle.rules.specs.AccountRules.{Move, refuse, tell, write, lose, book, Settlement, leave, end, ensureRule, topUpRule, limitRule, reserveRule, commitRule, releaseRule, readRule, readReservedRule, hasRoom, booked, perform, settle, AccountOperation, ensure, topUp, limit, reserve, commit, release, readRemaining, readInitial, readCommitted, readReserved, isTooLong, named, onName, onBooking, nextIdIsM, operate}
-use Rattle.rules.specs.SnapshotsMigrationCertificates.{snapshotOf, takingSnapshot, tooShortFor, snapshot, orElse, restore, recoveryRestore, replyOr, migrate, status, totalsFit, certificate, certificateOfSnapshot, certificateOfLedger, conservationProof}
+use Rattle.rules.specs.SnapshotsMigrationCertificates.{snapshotOf, takingSnapshot, tooShortFor, handedOut, snapshot, orElse, restore, recoveryRestore, replyOr, migrate, status, totalsFit, certificate, certificateOfSnapshot, certificateOfLedger, conservationProof}
 use Rattle.rules.specs.Frames.{Operation, onAccount, takeSnapshot, certifyLedger, proveConservation, restoreFrom, recoverFrom, judge, migrateTo, certify, answer, operationOfLine, answerToLine}
 use Rattle.rules.specs.Refusals.{MayAnswer, accepted, changed-nothing, drew-an-id, took-a-snapshot}
+use Rattle.rules.specs.OrderBetweenAirlines.{identifierIn, grantedId}
 use Rattle.rules.proofs.Tests.{by-test}
 
--- no refusal is taken for done, and the table ends at 24
-pub refusal-number : (e : Refusal) → InRange 1 24 (replyOf e .number)
-refusal-number (NegativeAmount value) = omega arith
-refusal-number InvalidAmount = omega arith
-refusal-number MissingTenant = omega arith
-refusal-number (OverflowOfReserve reserved) = omega arith
-refusal-number (OverflowOfCommit remaining) = omega arith
-refusal-number OverflowOfTopUp = omega arith
-refusal-number (ExposureLimitExceeded reserved ceiling) = omega arith
-refusal-number (Insufficient remaining required) = omega arith
-refusal-number MissingReservation = omega arith
-refusal-number (Overrun remaining) = omega arith
-refusal-number AllocatorExhausted = omega arith
-refusal-number (ActiveReservations count) = omega arith
-refusal-number (DuplicateTenant tenant) = omega arith
-refusal-number (GhostReservation tenant reserved) = omega arith
-refusal-number (NegativeLedgerField tenant field value) = omega arith
-refusal-number (ConservationViolation tenant delta) = omega arith
-refusal-number AggregateOverflow = omega arith
-refusal-number AlreadyRecoveryAware = omega arith
-refusal-number (InvalidAllocatorFence fence) = omega arith
-refusal-number LegacySnapshotRequiresMigration = omega arith
-refusal-number NameTooLong = omega arith
-refusal-number NamesFull = omega arith
-refusal-number ReservationsFull = omega arith
-refusal-number OutputTooShort = omega arith
-refusal-number BadFrame = omega arith
-refusal-number UnsoundLedger = omega arith
+-- the table's rows: no refusal is taken for done, grants an id or hands out a snapshot
+refusal-row : (e : Refusal) → InRange 1 24 (replyOf e .number) × (grantedId (replyOf e .carried) ≡ none) × (handedOut (replyOf e .carried) ≡ [])
+unfolding grantedId identifierIn
+refusal-row (NegativeAmount value) = (omega arith, refl, refl)
+refusal-row InvalidAmount = (omega arith, refl, refl)
+refusal-row MissingTenant = (omega arith, refl, refl)
+refusal-row (OverflowOfReserve reserved) = (omega arith, refl, refl)
+refusal-row (OverflowOfCommit remaining) = (omega arith, refl, refl)
+refusal-row OverflowOfTopUp = (omega arith, refl, refl)
+refusal-row (ExposureLimitExceeded reserved ceiling) = (omega arith, refl, refl)
+refusal-row (Insufficient remaining required) = (omega arith, refl, refl)
+refusal-row MissingReservation = (omega arith, refl, refl)
+refusal-row (Overrun remaining) = (omega arith, refl, refl)
+refusal-row AllocatorExhausted = (omega arith, refl, refl)
+refusal-row (ActiveReservations count) = (omega arith, refl, refl)
+refusal-row (DuplicateTenant tenant) = (omega arith, refl, refl)
+refusal-row (GhostReservation tenant reserved) = (omega arith, refl, refl)
+refusal-row (NegativeLedgerField tenant field value) = (omega arith, refl, refl)
+refusal-row (ConservationViolation tenant delta) = (omega arith, refl, refl)
+refusal-row AggregateOverflow = (omega arith, refl, refl)
+refusal-row AlreadyRecoveryAware = (omega arith, refl, refl)
+refusal-row (InvalidAllocatorFence fence) = (omega arith, refl, refl)
+refusal-row LegacySnapshotRequiresMigration = (omega arith, refl, refl)
+refusal-row NameTooLong = (omega arith, refl, refl)
+refusal-row NamesFull = (omega arith, refl, refl)
+refusal-row ReservationsFull = (omega arith, refl, refl)
+refusal-row OutputTooShort = (omega arith, refl, refl)
+refusal-row BadFrame = (omega arith, refl, refl)
+refusal-row UnsoundLedger = (omega arith, refl, refl)
+
+module _ (e : Refusal) where
+  pub refusal-number : InRange 1 24 (replyOf e .number)
+  refusal-number = refusal-row e .0
+
+  pub refusal-grants-nothing : grantedId (replyOf e .carried) ≡ none
+  refusal-grants-nothing = refusal-row e .1
+
+  pub refusal-hands-out-nothing : handedOut (replyOf e .carried) ≡ []
+  refusal-hands-out-nothing = refusal-row e .2
 
 abbrev asAnswered : Outcome → Answered
 asAnswered o = answered (o .reply) (sound (o .ledger))

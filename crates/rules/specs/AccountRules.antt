@@ -125,7 +125,7 @@ freed a = keep (λ p. not (isAt a p))
 unfoldable pub seated : Name → Seat → List Place → List Place
 seated a s ps = cond (isVacant s) (freed a ps) (put a s ps)
 
--- what 20 is given without: the seat needs a place, the name has none, and all T are held
+-- else 20: the seat needs a place, its name holds none, and T are held
 abbrev pub hasRoom : Name → Seat → Ledger → Bool
 hasRoom a s L = isVacant s || holdsPlace a (L .places) || ltb (length (L .places)) (L .T)
 

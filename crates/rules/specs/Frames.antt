@@ -3,11 +3,11 @@ use mathlib.Core.Bool.{Bool, true, false, cond, _&&_}
 use mathlib.Core.List.{List, [], _∷_, _++_, flatMap}
 use mathlib.Core.Option.{Option, none, some}
 use Prim.Native.Nat.{ℕ, _+_, _-_, _*_, _/_, _%_}
-use lib.Dec.{leb, ltb, eqb}
+use lib.Dec.{ltb, eqb}
 use lib.IntN.{ℤ}
 use lib.ListN.{length}
 use Rattle.rules.specs.Lists.{first}
-use Rattle.rules.specs.RoomAndSoundLedger.{longestName, mostNames, mostReservations, Name, fresh}
+use Rattle.rules.specs.RoomAndSoundLedger.{longestName, mostNames, mostReservations, Name, fresh, isInRange}
 use Rattle.rules.specs.AnswerNumbers.{Value, Amount, Identifier, Version, Fence, Count, Field, YesOrNo, TheName, SnapshotBytes, Reply, BadFrame, replyOf, Lent, sound, Answered, answered, onLent}
 use Rattle.rules.specs.AccountRules.{AccountOperation, ensure, topUp, limit, reserve, commit, release, operate}
 use Rattle.rules.specs.SnapshotsMigrationCertificates.{Snapshot, mostRows, bytesOf, amountBytes, nameBytes, Reader, reads, _>>=_, readNumber, readAmount, readName, readSnapshot, whole, snapshot, restore, recoveryRestore, migrate, status, certificateOfSnapshot, certificateOfLedger, conservationProof}
@@ -15,11 +15,8 @@ use Rattle.rules.specs.SnapshotsMigrationCertificates.{Snapshot, mostRow
 -- ── a line of digits to bytes ──────────────────────────────────────────────────────────────────
 
 -- a character's digit, or 16 for none: the characters of lowercase hexadecimal stand at 48 to 57 and at 97 to 102
-abbrev pub isBetween : ℕ → ℕ → ℕ → Bool
-isBetween low high c = leb low c && leb c high
-
 abbrev pub digitOf : ℕ → ℕ
-digitOf c = cond (isBetween 48 57 c) (c - 48) (cond (isBetween 97 102 c) (c - 87) 16)
+digitOf c = cond (isInRange 48 57 c) (c - 48) (cond (isInRange 97 102 c) (c - 87) 16)
 
 -- none stands for 23: an odd length, or a character that is no digit
 abbrev pub byteBefore : ℕ → ℕ → Option (List ℕ) → Option (List ℕ)

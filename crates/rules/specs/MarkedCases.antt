@@ -5,7 +5,7 @@ use Prim.Native.Char.{code}
 use Prim.Native.String.{String, [] as []ᵗ, _∷_ as _∷ᵗ_}
 use lib.IntN.{pos}
 use Rattle.rules.specs.RoomAndSoundLedger.{M, mostNames, mostReservations, Name, fresh}
-use Rattle.rules.specs.AnswerNumbers.{Amount, Identifier, Reply, done, MissingTenant, OverflowOfReserve, OverflowOfCommit, OverflowOfTopUp, ExposureLimitExceeded, Insufficient, Overrun, AllocatorExhausted, NegativeLedgerField, replyOf, Lent, sound, unsound, Answered, answered}
+use Rattle.rules.specs.AnswerNumbers.{Amount, Identifier, Reply, done, versionField, MissingTenant, OverflowOfReserve, OverflowOfCommit, OverflowOfTopUp, ExposureLimitExceeded, Insufficient, Overrun, AllocatorExhausted, NegativeLedgerField, replyOf, Lent, sound, unsound, Answered, answered}
 use Rattle.rules.specs.AccountRules.{doneWith, AccountOperation, ensure, topUp, limit, reserve, commit}
 use Rattle.rules.specs.SnapshotsMigrationCertificates.{Snapshot, tagged}
 use Rattle.rules.specs.Frames.{Operation, onAccount, takeSnapshot, restoreFrom, answer, lineFeed}
@@ -72,8 +72,8 @@ markedCases =
     ∷ case (map onAccount (ensure Q1 (pos (M - 5)) ∷ topUp Q1 (pos 6) ∷ [])) (replyOf OverflowOfTopUp) 1
     ∷ case (map onAccount (ensure Q1 (pos (M - 5)) ∷ topUp Q1 (pos 6) ∷ topUp Q1 (pos 5) ∷ [])) (doneWith (pos 5 ∷ pos M ∷ pos M ∷ [])) 1
     -- W11
-    ∷ case (restoreFrom (withoutRows 0) ∷ []) (replyOf (NegativeLedgerField [] 4 (pos 0))) 1
-    ∷ case (restoreFrom (withoutRows (2 ^ 63)) ∷ []) (replyOf (NegativeLedgerField [] 4 (pos M))) 1
+    ∷ case (restoreFrom (withoutRows 0) ∷ []) (replyOf (NegativeLedgerField [] versionField (pos 0))) 1
+    ∷ case (restoreFrom (withoutRows (2 ^ 63)) ∷ []) (replyOf (NegativeLedgerField [] versionField (pos M))) 1
     ∷ case (restoreFrom (withoutRows (2 ^ 63 + 7)) ∷ []) (done []) 7
     -- W12
     ∷ case (restoreFrom fenced ∷ onAccount (reserve Q1 (pos 1)) ∷ []) (granted 99 (M - 1)) M
