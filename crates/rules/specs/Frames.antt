@@ -38,15 +38,10 @@ pub data Operation : Type 0 where
   certify : (since : ℤ) → Snapshot → Operation
 
 abbrev pub nameAndAmount : (Name → ℤ → AccountOperation ℕ) → Reader Operation
-nameAndAmount operation = do
-  a ← readName
-  z ← readAmount
-  reads (onAccount (operation a z))
+nameAndAmount operation = do a ← readName; z ← readAmount; reads (onAccount (operation a z))
 
 abbrev pub aSnapshot : (Snapshot → Operation) → Reader Operation
-aSnapshot operation = do
-  s ← readSnapshot
-  reads (operation s)
+aSnapshot operation = do s ← readSnapshot; reads (operation s)
 
 pub record Code : Type 0 where
   pub number : ℕ
@@ -62,23 +57,14 @@ codes =
     ∷ code 0x02 (nameAndAmount topUp)
     ∷ code 0x03 (nameAndAmount limit)
     ∷ code 0x04 (nameAndAmount reserve)
-    ∷ code 0x05 (do
-      i ← readNumber 8
-      z ← readAmount
-      reads (onAccount (commit i z)))
-    ∷ code 0x06 (do
-      i ← readNumber 8
-      reads (onAccount (release i)))
+    ∷ code 0x05 (do i ← readNumber 8; z ← readAmount; reads (onAccount (commit i z)))
+    ∷ code 0x06 (do i ← readNumber 8; reads (onAccount (release i)))
     ∷ code 0x07 (reads takeSnapshot)
     ∷ code 0x08 (aSnapshot restoreFrom)
     ∷ code 0x09 (aSnapshot recoverFrom)
-    ∷ code 0x0a (do
-      fence ← readNumber 8
-      aSnapshot (migrateTo fence))
+    ∷ code 0x0a (do fence ← readNumber 8; aSnapshot (migrateTo fence))
     ∷ code 0x0b (reads certifyLedger)
-    ∷ code 0x0c (do
-      since ← readAmount
-      aSnapshot (certify since))
+    ∷ code 0x0c (do since ← readAmount; aSnapshot (certify since))
     ∷ code 0x0d (reads proveConservation)
     ∷ code 0x0e (aSnapshot judge)
     ∷ []
@@ -88,9 +74,7 @@ bodyOf none bs = none
 bodyOf (some c) bs = c .body bs
 
 unfoldable pub readOperation : Reader Operation
-readOperation = do
-  number ← readNumber 1
-  bodyOf (first (λ c. eqb number (c .number)) codes)
+readOperation = do number ← readNumber 1; bodyOf (first (λ c. eqb number (c .number)) codes)
 
 -- none stands for 23: nothing to read, too little or too much of it, or no such operation
 unfoldable pub operationOf : List ℕ → Option Operation

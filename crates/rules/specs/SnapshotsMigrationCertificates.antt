@@ -87,19 +87,13 @@ unfoldable pub readPart : (size : ℕ) → Reader (List ℕ)
 readPart size bs = cond (ltb (length bs) size) none (some (record { value = take size bs; rest = drop size bs }))
 
 unfoldable pub readNumber : (size : ℕ) → Reader ℕ
-readNumber size = do
-  part ← readPart size
-  reads (numberOf part)
+readNumber size = do part ← readPart size; reads (numberOf part)
 
 unfoldable pub readAmount : Reader ℤ
-readAmount = do
-  word ← readNumber 8
-  reads (signed word)
+readAmount = do word ← readNumber 8; reads (signed word)
 
 unfoldable pub readName : Reader Name
-readName = do
-  size ← readNumber 1
-  readPart size
+readName = do size ← readNumber 1; readPart size
 
 unfoldable pub readRow : Reader Row
 readRow = do
@@ -112,18 +106,13 @@ readRow = do
 
 unfoldable pub readRows : (count : ℕ) → Reader (List Row)
 readRows zero = reads []
-readRows (suc count) = do
-  r ← readRow
-  rs ← readRows count
-  reads (r ∷ rs)
+readRows (suc count) = do r ← readRow; rs ← readRows count; reads (r ∷ rs)
 
 abbrev pub unlessTooMany : ℕ → Reader ℕ
 unlessTooMany count bs = cond (ltb mostRows count) none (reads count bs)
 
 unfoldable pub readCount : Reader ℕ
-readCount = do
-  count ← readNumber 2
-  unlessTooMany count
+readCount = do count ← readNumber 2; unlessTooMany count
 
 unfoldable pub readSnapshot : Reader Snapshot
 readSnapshot = do
