@@ -10,7 +10,7 @@ use lib.Dec.{ltb}
 use lib.IntN.{ℤ}
 use lib.ListN.{length}
 use Rattle.rules.specs.Lists.{All}
-use Rattle.rules.specs.RoomAndSoundLedger.{Name, Account, Ledger, isVacant, withPlaces, holdsPlace, seatIn, hasAccount, Sound}
+use Rattle.rules.specs.RoomAndSoundLedger.{Name, Account, Ledger, isVacant, withPlaces, holdsPlace, seatIn, hasAccount, Sound, longestName}
 use Rattle.rules.specs.AnswerNumbers.{Reply, Refusal, NameTooLong, NamesFull as FullOfNames, replyOf, Outcome, outcome, refused}
 use Rattle.rules.specs.AccountRules.{Move, refuse, tell, write, seated, hasRoom, doneWith, perform, isTooLong, onName, ensureRule, topUpRule, limitRule, ensure, topUp, limit, operate}
 use Rattle.rules.specs.Domain.{IsAmount, IsBytes}
@@ -39,7 +39,7 @@ found-in a ps (At i) e = name-found a noPlace ps i (sym e) .0
 found-in a ps Absent e = tt
 
 -- what a look-up asks
-pub searchable : (xs : List ℕ) → SoundRoom xs → Sized xs × All (λ p. p .name .length ≤ 24) (usedPlaces (contentsOf xs))
+pub searchable : (xs : List ℕ) → SoundRoom xs → Sized xs × All (λ p. p .name .length ≤ longestName) (usedPlaces (contentsOf xs))
 searchable xs sound = (sized xs (sound .ledger) (sound .is-room), names-short xs (sound .ledger) (sound .is-room))
 
 or-held : (b c d : Bool) → c ≡ true → b || c || d ≡ true
@@ -63,7 +63,7 @@ pub record OnName (a : Name) : Type 0 where
 -- what a function has seen when it asks the rule: the seat of a name that is not too long
 pub record Seen (xs : List ℕ) (a : Name) (found : Found) (s : Seat) : Type 0 where
   pub sound : SoundRoom xs
-  pub short : length a ≤ 24
+  pub short : length a ≤ longestName
   pub found-is : found ≡ placeOfName a (usedPlaces (contentsOf xs))
   pub seat-is : s ≡ seatFound found (usedPlaces (contentsOf xs))
 
@@ -88,7 +88,7 @@ module _ {xs : List ℕ} {a : Name} {found : Found} {s : Seat} (seen : Seen xs a
 
   -- what the writing of a seat asks
   pub ready : (o : OnName a) (zs : List ℤ) (t : Seat) → write zs (meaning t) ≡ o .rule (accountOf s) (s .limit) → SeatSound t
-      → SoundRoom xs × (length a ≤ 24) × SeatSound t × (found ≡ placeOfName a (usedPlaces (contentsOf xs))) × ((L : Ledger) → IsRoom xs L → isVacant (meaning t) ≡ true → seatIn a (L .places) .account ≡ none)
+      → SoundRoom xs × (length a ≤ longestName) × SeatSound t × (found ≡ placeOfName a (usedPlaces (contentsOf xs))) × ((L : Ledger) → IsRoom xs L → isVacant (meaning t) ≡ true → seatIn a (L .places) .account ≡ none)
   ready o zs t e known =
       (seen .sound, seen .short, known, seen .found-is, λ L room v. sym (seen-account L room) ∙ o .vacates (accountOf s) (s .limit) zs (meaning t) e v)
 
@@ -108,16 +108,16 @@ module _ {xs : List ℕ} {a : Name} (o : OnName a) (L : Ledger) (room : IsRoom x
   carried = o .is L
 
   -- 19 before any rule
-  pub too-long : 24 < length a → Performed (o .carry) L (replyOf NameTooLong) xs
+  pub too-long : longestName < length a → Performed (o .carry) L (replyOf NameTooLong) xs
   unfolding moved perform
-  too-long h = unchanged (replyOf NameTooLong) (carried ∙ ap moved (lt-ltb 24 (length a) h))
+  too-long h = unchanged (replyOf NameTooLong) (carried ∙ ap moved (lt-ltb longestName (length a) h))
 
   module _ {found : Found} {s : Seat} (seen : Seen xs a found s) where
     decided : (m : Move) → m ≡ o .rule (accountOf s) (s .limit) → o .carry L ≡ perform L a m
     unfolding moved
     decided m e =
         carried
-        ∙ ap moved (le-ltb 24 (length a) (seen .short))
+        ∙ ap moved (le-ltb longestName (length a) (seen .short))
         ∙ sym (ap (perform L a) (e ∙ λ i. o .rule (seen-account seen L room i) (seen-limit seen L room i)))
 
     pub refuses : (e : Refusal) → refuse e ≡ o .rule (accountOf s) (s .limit) → Performed (o .carry) L (replyOf e) xs

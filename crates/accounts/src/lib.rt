@@ -35,14 +35,11 @@ pub enum Limited {
     UnsoundLedger,
 }
 
-// "19: a name of more than 24 bytes"
-const LONGEST_NAME: usize = 24;
-
 pub fn ensure(room: &mut [u8], part: &[u8], amount: Microcents) -> Ensured
     requires { ⌜ SoundRoom (now room) ⌝ }
     ensures { λ r. ⌜ Performs (λ K. operate K (ensure (now (part .entry)) (amount .0))) (now (room .entry)) (ensuredReply r) (now (room .exit)) ⌝ }
 {
-    if LONGEST_NAME < part.len() {
+    if rules::LONGEST_NAME < part.len() {
         return Ensured::NameTooLong;
     }
     let found = lookup::find(room, part);
@@ -65,7 +62,7 @@ pub fn top_up(room: &mut [u8], part: &[u8], amount: Microcents) -> ToppedUp
     requires { ⌜ SoundRoom (now room) ⌝ }
     ensures { λ r. ⌜ Performs (λ K. operate K (topUp (now (part .entry)) (amount .0))) (now (room .entry)) (toppedUpReply r) (now (room .exit)) ⌝ }
 {
-    if LONGEST_NAME < part.len() {
+    if rules::LONGEST_NAME < part.len() {
         return ToppedUp::NameTooLong;
     }
     let found = lookup::find(room, part);
@@ -90,7 +87,7 @@ pub fn limit(room: &mut [u8], part: &[u8], amount: Microcents) -> Limited
     requires { ⌜ SoundRoom (now room) ⌝ }
     ensures { λ r. ⌜ Performs (λ K. operate K (limit (now (part .entry)) (amount .0))) (now (room .entry)) (limitedReply r) (now (room .exit)) ⌝ }
 {
-    if LONGEST_NAME < part.len() {
+    if rules::LONGEST_NAME < part.len() {
         return Limited::NameTooLong;
     }
     let found = lookup::find(room, part);

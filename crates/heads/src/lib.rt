@@ -6,8 +6,6 @@ ghost use Prim.Native.Nat.{_≤_};
 ghost use Rattle.rules.specs.RoomAndSoundLedger.{M};
 ghost use Rattle.heads.specs.Heads.{identifierAt, nextAfter, drawnHead, stampedHead, sinceBaseline, larger, rotatedHead};
 
-const M: u64 = 9223372036854775807;
-
 pub enum Drawing {
     Identifier(Identifier),
     AllocatorExhausted,
@@ -34,7 +32,7 @@ pub struct Rotated {
 fn identifier_at(next_id: u64) -> Drawing
     ensures { λ r. ⌜ r ≡ identifierAt «next_id» ⌝ }
 {
-    if next_id < M {
+    if next_id < rules::M {
         return Drawing::Identifier(Identifier(next_id));
     }
     Drawing::AllocatorExhausted
@@ -43,7 +41,7 @@ fn identifier_at(next_id: u64) -> Drawing
 fn next_after(next_id: u64) -> u64
     ensures { λ r. ⌜ r ≡ nextAfter «next_id» ⌝ }
 {
-    if next_id < M {
+    if next_id < rules::M {
         return next_id + 1;
     }
     next_id

@@ -1,21 +1,23 @@
 // Look-up in the tables of a room: a name's place, the place for a new name, a live booking by its id.
-use room::Found;
 use names::Order;
+use room::Found;
 ghost use mathlib.Core.Path.{_≡_};
 ghost use Prim.Native.Nat.{_+_, _*_, _≤_, _<_};
 ghost use lib.ListN.{length};
 ghost use Rattle.rules.specs.Lists.{All, Pairwise};
+ghost use Rattle.rules.specs.RoomAndSoundLedger.{longestName};
 ghost use Rattle.names.specs.Names.{spelled};
+ghost use Rattle.records.specs.Layout.{placeStart, placeSize};
 ghost use Rattle.records.specs.Rows.{row};
 ghost use Rattle.records.specs.Records.{placeOf};
 ghost use Rattle.room.specs.Contents.{contentsOf, Sized, usedPlaces, liveBookings, placeOfName, placeForName, bookingOfId};
 
 // The name at place i where it stands in the room: its length, and after that its bytes.
 fn name_at(room: &[u8], i: usize) -> &[u8]
-    requires { ⌜ (56 + 66 * i + 66 ≤ length (now room)) × (placeOf (row 66 (56 + 66 * i) (now room)) .name .length ≤ 24) ⌝ }
-    ensures { λ r. ⌜ now r ≡ spelled (placeOf (row 66 (56 + 66 * i) (now (room .entry))) .name) ⌝ }
+    requires { ⌜ (placeStart i + placeSize ≤ length (now room)) × (placeOf (row placeSize (placeStart i) (now room)) .name .length ≤ longestName) ⌝ }
+    ensures { λ r. ⌜ now r ≡ spelled (placeOf (row placeSize (placeStart i) (now (room .entry))) .name) ⌝ }
 {
-    let at = 97 + 66 * i;
+    let at = records::FIRST_NAME + records::PLACE_SIZE * i;
     let from = at + 1;
     let end = from + (room[at] as usize);
     &room[from..end]
@@ -23,7 +25,7 @@ fn name_at(room: &[u8], i: usize) -> &[u8]
 
 // The place of a name, or that it is absent: place by place.
 pub fn find(room: &[u8], part: &[u8]) -> Found
-    requires { ⌜ Sized (now room) × All (λ p. p .name .length ≤ 24) (usedPlaces (contentsOf (now room))) ⌝ }
+    requires { ⌜ Sized (now room) × All (λ p. p .name .length ≤ longestName) (usedPlaces (contentsOf (now room))) ⌝ }
     ensures { λ r. ⌜ r ≡ placeOfName (now (part .entry)) (usedPlaces (contentsOf (now (room .entry)))) ⌝ }
 {
     let sizes = records::load_sizes(room);
@@ -40,7 +42,7 @@ pub fn find(room: &[u8], part: &[u8]) -> Found
 
 // Where a new name goes: behind the names that come before it.
 pub fn place_for(room: &[u8], part: &[u8]) -> usize
-    requires { ⌜ Sized (now room) × All (λ p. p .name .length ≤ 24) (usedPlaces (contentsOf (now room))) ⌝ }
+    requires { ⌜ Sized (now room) × All (λ p. p .name .length ≤ longestName) (usedPlaces (contentsOf (now room))) ⌝ }
     ensures { λ r. ⌜ r ≡ placeForName (now (part .entry)) (usedPlaces (contentsOf (now (room .entry)))) ⌝ }
 {
     let sizes = records::load_sizes(room);
@@ -61,7 +63,7 @@ pub fn find_booking(room: &[u8], id: u64) -> Found
     ensures { λ r. ⌜ r ≡ bookingOfId id (liveBookings (contentsOf (now (room .entry)))) ⌝ }
 {
     let sizes = records::load_sizes(room);
-    let base = 56 + 66 * (sizes.names as usize);
+    let base = records::HEAD_SIZE + records::PLACE_SIZE * (sizes.names as usize);
     let mut low = 0;
     let mut high = sizes.live as usize;
     while low < high {

@@ -3,6 +3,7 @@ use mathlib.Core.Path.{_≡_}
 use mathlib.Core.List.{List, _++_}
 use Prim.Native.Nat.{ℕ, _-_, _≤_, Ordering, Ordering·lt, Ordering·eq, Ordering·gt}
 use lib.ListN.{length, getD, take, replicate}
+use Rattle.rules.specs.RoomAndSoundLedger.{longestName}
 use Rattle.names.specs.declared.Order.{Order}
 use Rattle.names.specs.declared.Order.the-variants.{Before, Same, After}
 use Rattle.names.specs.declared.Name.{Name}
@@ -19,10 +20,10 @@ spelled n = take (n .length) (n .bytes)
 
 -- bytes as a name, with zeros after them
 abbrev pub stored : List ℕ → Name
-stored a = record { length = length a; bytes = a ++ replicate (24 - length a) 0 }
+stored a = record { length = length a; bytes = a ++ replicate (longestName - length a) 0 }
 
 pub record IsStored (n : Name) : Type 0 where
-  pub fits : n .length ≤ 24
+  pub fits : n .length ≤ longestName
   -- an array has its 24 bytes; a list may have any number
-  pub width : length (n .bytes) ≡ 24
+  pub width : length (n .bytes) ≡ longestName
   pub clear : (i : ℕ) → n .length ≤ i → getD (n .bytes) i 0 ≡ 0

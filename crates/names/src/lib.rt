@@ -2,7 +2,7 @@
 ghost use mathlib.Core.Path.{_≡_};
 ghost use Prim.Native.Nat.{_+_, _≤_};
 ghost use lib.ListN.{length};
-ghost use Rattle.rules.specs.RoomAndSoundLedger.{order, same};
+ghost use Rattle.rules.specs.RoomAndSoundLedger.{order, same, longestName};
 ghost use Rattle.rules.specs.SnapshotsMigrationCertificates.{nameBytes};
 ghost use Rattle.names.specs.Names.{orderingOf, spelled, stored};
 
@@ -14,7 +14,7 @@ pub enum Order {
 
 pub struct Name {
     pub length: u8,
-    pub bytes: [u8; 24],
+    pub bytes: [u8; rules::LONGEST_NAME],
 }
 
 // "Names are ordered by bytes, a prefix first." Any bytes compare: a name asked for may be too long to be kept.
@@ -61,7 +61,7 @@ pub fn is_same(left: &[u8], right: &[u8]) -> bool
 
 // A name that is kept, against a part of what was received.
 pub fn compare_name(stored: Name, part: &[u8]) -> Order
-    requires { ⌜ stored .length ≤ 24 ⌝ }
+    requires { ⌜ stored .length ≤ longestName ⌝ }
     ensures { λ r. ⌜ orderingOf r ≡ order (spelled stored) (now (part .entry)) ⌝ }
 {
     let end = stored.length as usize;
@@ -71,10 +71,10 @@ pub fn compare_name(stored: Name, part: &[u8]) -> Order
 
 // The name that a part spells. What it does not fill stays zero, so that a name has one form.
 pub fn name_of(part: &[u8]) -> Name
-    requires { ⌜ length (now part) ≤ 24 ⌝ }
+    requires { ⌜ length (now part) ≤ longestName ⌝ }
     ensures { λ r. ⌜ r ≡ stored (now (part .entry)) ⌝ }
 {
-    let mut bytes = [0u8; 24];
+    let mut bytes = [0u8; rules::LONGEST_NAME];
     let mut i = 0;
     while i < part.len() {
         bytes[i] = part[i];
@@ -88,7 +88,7 @@ pub fn name_of(part: &[u8]) -> Name
 
 // A name as a snapshot row and an answer have it: its length, and its bytes behind that.
 pub fn write_name(part: &mut [u8], name: Name)
-    requires { ⌜ (length (now part) ≡ 1 + name .length) × (name .length ≤ 24) ⌝ }
+    requires { ⌜ (length (now part) ≡ 1 + name .length) × (name .length ≤ longestName) ⌝ }
     ensures { λ _. ⌜ now (part .exit) ≡ nameBytes (spelled name) ⌝ }
 {
     let end = name.length as usize;

@@ -95,7 +95,7 @@ pub fn plus(a: u64, b: u64) -> Sum
     requires { ⌜ a ≤ M ⌝ }
     ensures { λ r. ⌜ r ≡ sumOf a b ⌝ }
 {
-    let room = 9223372036854775807 - a;
+    let room = rules::M - a;
     if room < b {
         return Sum::AboveM;
     }

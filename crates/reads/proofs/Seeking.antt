@@ -10,7 +10,7 @@ use lib.Dec.{eqb}
 use lib.IntN.{pos}
 use lib.ListN.{length}
 use Rattle.rules.specs.Lists.{All}
-use Rattle.rules.specs.RoomAndSoundLedger.{M, Name, Account, Ledger, seatIn, AddsUp}
+use Rattle.rules.specs.RoomAndSoundLedger.{M, Name, Account, Ledger, seatIn, AddsUp, longestName}
 use Rattle.rules.specs.AnswerNumbers.{Amount, Reply, MissingTenant, NameTooLong, done, replyOf}
 use Rattle.rules.specs.AccountRules.{Move, refuse, perform, isTooLong, onName, readRule, readReservedRule}
 use Rattle.rules.proofs.Tests.{by-bool, by-test}
@@ -32,7 +32,7 @@ use Rattle.reads.specs.declared.Sought.the-variants as found
 -- ── the look-up ────────────────────────────────────────────────────────────────────────────────
 
 -- what a look-up asks
-pub searchable : (xs : List ℕ) → SoundRoom xs → Sized xs × All (λ p. p .name .length ≤ 24) (usedPlaces (contentsOf xs))
+pub searchable : (xs : List ℕ) → SoundRoom xs → Sized xs × All (λ p. p .name .length ≤ longestName) (usedPlaces (contentsOf xs))
 searchable xs sound = (sized xs (sound .ledger) (sound .is-room), names-short xs (sound .ledger) (sound .is-room))
 
 -- what a look-up answers is in the places
@@ -41,14 +41,14 @@ found-in a ps (At i) e = name-found a noPlace ps i (sym e) .0
 found-in a ps Absent e = tt
 
 module _ (L : Ledger) (a : Name) where
-  pub sought-long : 24 < length a → found.NameTooLong ≡ sought L a
-  sought-long h = rw (lt-ltb 24 (length a) h)
+  pub sought-long : longestName < length a → found.NameTooLong ≡ sought L a
+  sought-long h = rw (lt-ltb longestName (length a) h)
 
-  pub sought-seat : (xs : List ℕ) → IsRoom xs L → (f : Found) (s : Seat) → length a ≤ 24 → f ≡ placeOfName a (usedPlaces (contentsOf xs)) → s ≡ seatFound f (usedPlaces (contentsOf xs)) → found.Seat s ≡ sought L a
+  pub sought-seat : (xs : List ℕ) → IsRoom xs L → (f : Found) (s : Seat) → length a ≤ longestName → f ≡ placeOfName a (usedPlaces (contentsOf xs)) → s ≡ seatFound f (usedPlaces (contentsOf xs)) → found.Seat s ≡ sought L a
   sought-seat xs room f s short found-is seat-is =
       let is : s ≡ keptSeat (seatIn a (L .places)) =
       seat-is ∙ ap (λ f. seatFound f (usedPlaces (contentsOf xs))) found-is ∙ ap (λ ps. seatFound (placeOfName a ps) ps) (places-are xs L room) ∙ seat-found a (L .places) in
-      rw (le-ltb 24 (length a) short) (ap found.Seat is)
+      rw (le-ltb longestName (length a) short) (ap found.Seat is)
 
   -- a seat that was sought is the name's
   seat-of : (s : Seat) → sought L a ≡ found.Seat s → s ≡ keptSeat (seatIn a (L .places))

@@ -1,7 +1,7 @@
 -- Sums over the places in use, taken place by place.
 use mathlib.Core.Path.{_≡_, refl, sym, _∙_, ap, ap₂}
 use mathlib.Core.List.{List, [], _∷_, map}
-use Prim.Native.Nat.{ℕ, zero, suc, _+_, _*_, _≤_, _<_}
+use Prim.Native.Nat.{ℕ, zero, suc, _+_, _≤_, _<_}
 use native.Mathlib.Omega.{arith}
 use native.Mathlib.Numerals.{add-one}
 use lib.ListN.{length, take, getD}
@@ -9,6 +9,7 @@ use lib.Seq.{take-suc, take-all}
 use Rattle.rules.specs.Lists.{sum}
 use Rattle.rules.specs.RoomAndSoundLedger.{Place as RulesPlace, Ledger}
 use Rattle.rules.proofs.Lists.{sum-more}
+use Rattle.records.specs.Layout.{placeStart, placeSize}
 use Rattle.records.specs.Rows.{row}
 use Rattle.records.specs.Records.{sizesOf, placeOf}
 use Rattle.records.specs.declared.Place.{Place}
@@ -43,7 +44,7 @@ module _ (w : Place → ℕ) (xs : List ℕ) (s : Sized xs) where
   unfolding sum
   sum-none = refl
 
-  pub sum-next : (i : ℕ) → i < sizesOf xs .used → sumTo w xs (i + 1) ≡ sumTo w xs i + w (placeOf (row 66 (56 + 66 * i) xs))
+  pub sum-next : (i : ℕ) → i < sizesOf xs .used → sumTo w xs (i + 1) ≡ sumTo w xs i + w (placeOf (row placeSize (placeStart i) xs))
   sum-next i h =
       let d = placeOf [] in
       sum-turn w (usedPlaces (contentsOf xs)) i d (omega (arith, used-places xs s)) ∙ ap (λ p. sumTo w xs i + w p) (sym (loaded-place xs s i d h))

@@ -3,7 +3,7 @@ use mathlib.Core.Path.{_≡_, refl, sym, _∙_, ap}
 use mathlib.Core.Bool.{cond}
 use mathlib.Core.List.{List, [], _∷_}
 use mathlib.Core.Option.{Option, none, some}
-use Prim.Native.Nat.{ℕ, _+_, _-_, _*_, _≤_, _<_, min}
+use Prim.Native.Nat.{ℕ, _+_, _-_, _≤_, _<_, min}
 use native.Mathlib.Omega.{arith}
 use native.Mathlib.Nat.{min-eq-left, min-eq-right}
 use borrow.Author.Tests.{eq-eqb, ne-eqb, lt-ltb, le-ltb, ltb-true, ltb-false}
@@ -18,6 +18,7 @@ use Rattle.rules.proofs.Tests.{by-test, by-bool}
 use Rattle.numbers.specs.declared.Sum.{Sum}
 use Rattle.numbers.specs.declared.Sum.the-variants.{Fits, AboveM}
 use Rattle.moves.specs.Moves.{kept, keptSeat}
+use Rattle.records.specs.Layout.{placeStart, placeSize}
 use Rattle.records.specs.Rows.{row}
 use Rattle.records.specs.Records.{sizesOf, headOf, placeOf}
 use Rattle.records.specs.declared.Place.{Place}
@@ -97,7 +98,7 @@ module _ (xs : List ℕ) (L : Ledger) (room : IsRoom xs L) where
   sum-is i n h e small = fits-summed total n (e ∙ sum-all committedIn xs (sized xs L room) committedAt record-committed L room i h) small
 
   -- one that would be above M with the next place
-  pub sum-above : (i n : ℕ) → i < sizesOf xs .used → n ≡ sumTo committedIn xs i → M < n + placeOf (row 66 (56 + 66 * i) xs) .committed → AboveM ≡ summed total
+  pub sum-above : (i n : ℕ) → i < sizesOf xs .used → n ≡ sumTo committedIn xs i → M < n + placeOf (row placeSize (placeStart i) xs) .committed → AboveM ≡ summed total
   unfolding committedTotal
   sum-above i n h e above =
       let s = sized xs L room in

@@ -22,7 +22,7 @@ pub enum Total {
     UnsoundLedger,
 }
 
-// The seat of a name of at most 24 bytes, or that it is longer.
+// The seat of a name that is not too long, or that it is longer.
 enum Sought {
     Seat(Seat),
     NameTooLong,
@@ -32,7 +32,7 @@ fn seek(room: &[u8], part: &[u8]) -> Sought
     requires { ⌜ SoundRoom (now room) ⌝ }
     ensures { λ r. ⌜ OfRoom (now (room .entry)) (λ L. r ≡ sought L (now (part .entry))) ⌝ }
 {
-    if 24 < part.len() {
+    if rules::LONGEST_NAME < part.len() {
         return Sought::NameTooLong;
     }
     let found = lookup::find(room, part);
@@ -163,7 +163,7 @@ pub fn committed_since(room: &[u8]) -> Microcents
 {
     let head = records::load_head(room);
     let Sum::Fits(total) = sum_committed(room) else {
-        return numbers::amount(9223372036854775807 - head.baseline);
+        return numbers::amount(rules::M - head.baseline);
     };
     numbers::amount(total - head.baseline)
 }

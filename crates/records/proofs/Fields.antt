@@ -12,11 +12,8 @@ use Rattle.numbers.specs.LittleEndian.{littleNumber, littleBytes}
 use Rattle.numbers.proofs.Bytes.{all-take, all-drop}
 use Rattle.numbers.proofs.LittleEndian.{little-length, little-number, little-bytes, little-small}
 use Rattle.records.specs.Rows.{row, put, encoded, fieldBytes}
+use Rattle.records.specs.Layout.{total}
 use Rattle.records.proofs.Rows.{row-length, row-join, row-apart, put-length, put-next}
-
-abbrev pub total : List ℕ → ℕ
-total [] = 0
-total (k ∷ ks) = k + total ks
 
 -- each value fits its width
 abbrev pub Fit : (widths values : List ℕ) → Type 0

@@ -6,13 +6,14 @@ use native.Mathlib.Omega.{arith}
 use lib.ListN.{length, getD, take, length-append}
 use lib.Seq.{take-all, drop-at}
 use Rattle.rules.specs.Lists.{All}
-use Rattle.rules.specs.RoomAndSoundLedger.{IsByte}
+use Rattle.rules.specs.RoomAndSoundLedger.{IsByte, longestName}
+use Rattle.records.specs.Layout.{ledgerHeadOffset, ledgerHeadSize, countsOffset, capacityOffset, pairSize, placeSize, bookingSize, headSize, nameBytesOffset, pairWidths, headWidths, placeWidths, bookingWidths}
 use Rattle.records.specs.declared.Place.{Place}
 use Rattle.records.specs.declared.Booking.{Booking}
 use Rattle.records.specs.declared.Head.{Head}
 use Rattle.records.specs.declared.Sizes.{Sizes}
 use Rattle.records.specs.Rows.{row, fieldBytes}
-use Rattle.records.specs.Records.{placeOf, placeWidths, placeNumbers, placeBytes, PlaceFits, bookingOf, bookingWidths, bookingNumbers, bookingBytes, BookingFits, headOf, headWidths, headNumbers, headBytes, HeadFits, sizesOf, pairWidths, pairBytes, SizesFit}
+use Rattle.records.specs.Records.{placeOf, placeNumbers, placeBytes, PlaceFits, bookingOf, bookingNumbers, bookingBytes, BookingFits, headOf, headNumbers, headBytes, HeadFits, sizesOf, pairBytes, SizesFit}
 use Rattle.records.proofs.Rows.{row-length, row-join}
 use Rattle.records.proofs.Fields.{Fit, fields, fields-length, fields-read, bytes-of-fields, fields-fit}
 
@@ -21,7 +22,7 @@ use Rattle.records.proofs.Fields.{Fit, fields, fields-length, fields-re
 pub place-fit : (p : Place) → PlaceFits p → Fit placeWidths (placeNumbers p)
 place-fit p f = (f .initial, (f .remaining, (f .reserved, (f .committed, (f .limit, (f .account, (f .nameLength, tt)))))))
 
-pub place-length : (p : Place) → length (p .name .bytes) ≡ 24 → length (placeBytes p) ≡ 66
+pub place-length : (p : Place) → length (p .name .bytes) ≡ longestName → length (placeBytes p) ≡ placeSize
 place-length p h = length-append (fieldBytes placeWidths (placeNumbers p)) (p .name .bytes) ∙ ap₂ _+_ (fields-length placeWidths (placeNumbers p) refl) h
 
 placeFrom : (numbers bytes : List ℕ) → Place
@@ -42,14 +43,14 @@ place-of-bytes p f =
     let front = fieldBytes placeWidths (placeNumbers p) in
     let bytes = p .name .bytes in
     let numbers = fields-read 0 placeWidths (placeNumbers p) (placeBytes p) bytes (place-fit p f) refl in
-    let tail : row 24 42 (placeBytes p) ≡ bytes = ap (take 24) (drop-at front bytes 42 (fields-length placeWidths (placeNumbers p) refl)) ∙ take-all 24 bytes (omega (arith, f .nameBytes)) in
+    let tail : row longestName nameBytesOffset (placeBytes p) ≡ bytes = ap (take longestName) (drop-at front bytes nameBytesOffset (fields-length placeWidths (placeNumbers p) refl)) ∙ take-all longestName bytes (omega (arith, f .nameBytes)) in
     ap₂ placeFrom numbers tail
 
-pub bytes-of-place : (w : List ℕ) → All IsByte w → length w ≡ 66 → placeBytes (placeOf w) ≡ w
+pub bytes-of-place : (w : List ℕ) → All IsByte w → length w ≡ placeSize → placeBytes (placeOf w) ≡ w
 bytes-of-place w h l =
-    ap (λ front. front ++ row 24 42 w) (bytes-of-fields 0 placeWidths w h (omega arith)) ∙ sym (row-join 42 24 0 w) ∙ take-all 66 w (omega arith)
+    ap (λ front. front ++ row longestName nameBytesOffset w) (bytes-of-fields 0 placeWidths w h (omega arith)) ∙ sym (row-join nameBytesOffset longestName 0 w) ∙ take-all placeSize w (omega arith)
 
-pub place-fits : (w : List ℕ) → All IsByte w → length w ≡ 66 → PlaceFits (placeOf w)
+pub place-fits : (w : List ℕ) → All IsByte w → length w ≡ placeSize → PlaceFits (placeOf w)
 place-fits w h l =
     let f = fields-fit 0 placeWidths w h (omega arith) in
     record {
@@ -60,12 +61,12 @@ place-fits w h l =
       limit = f .1 .1 .1 .1 .0;
       account = f .1 .1 .1 .1 .1 .0;
       nameLength = f .1 .1 .1 .1 .1 .1 .0;
-      nameBytes = row-length 24 42 w (omega arith);
+      nameBytes = row-length longestName nameBytesOffset w (omega arith);
     }
 
 -- ── a booking ──────────────────────────────────────────────────────────────────────────────────
 
-pub booking-length : (b : Booking) → length (bookingBytes b) ≡ 18
+pub booking-length : (b : Booking) → length (bookingBytes b) ≡ bookingSize
 booking-length b = fields-length bookingWidths (bookingNumbers b) refl
 
 bookingFrom : List ℕ → Booking
@@ -75,20 +76,20 @@ pub booking-of-bytes : (b : Booking) → BookingFits b → bookingOf (bookingByt
 unfolding bookingFrom
 booking-of-bytes b f = ap bookingFrom (fields-read 0 bookingWidths (bookingNumbers b) (bookingBytes b) [] (f .id, (f .amount, (f .owner, tt))) (sym (append-nil (bookingBytes b))))
 
-pub bytes-of-booking : (w : List ℕ) → All IsByte w → length w ≡ 18 → bookingBytes (bookingOf w) ≡ w
-bytes-of-booking w h l = bytes-of-fields 0 bookingWidths w h (omega arith) ∙ take-all 18 w (omega arith)
+pub bytes-of-booking : (w : List ℕ) → All IsByte w → length w ≡ bookingSize → bookingBytes (bookingOf w) ≡ w
+bytes-of-booking w h l = bytes-of-fields 0 bookingWidths w h (omega arith) ∙ take-all bookingSize w (omega arith)
 
-pub booking-fits : (w : List ℕ) → All IsByte w → length w ≡ 18 → BookingFits (bookingOf w)
+pub booking-fits : (w : List ℕ) → All IsByte w → length w ≡ bookingSize → BookingFits (bookingOf w)
 booking-fits w h l =
     let f = fields-fit 0 bookingWidths w h (omega arith) in
     record { id = f .0; amount = f .1 .0; owner = f .1 .1 .0 }
 
 -- ── the head, and the sizes around it ──────────────────────────────────────────────────────────
 
-pub head-length : (h : Head) → length (headBytes h) ≡ 24
+pub head-length : (h : Head) → length (headBytes h) ≡ ledgerHeadSize
 head-length h = fields-length headWidths (headNumbers h) refl
 
-pub pair-length : (a b : ℕ) → length (pairBytes a b) ≡ 16
+pub pair-length : (a b : ℕ) → length (pairBytes a b) ≡ pairSize
 pair-length a b = fields-length pairWidths (a ∷ b ∷ []) refl
 
 headFrom : List ℕ → Head
@@ -98,30 +99,30 @@ sizesFrom : (room counts : List ℕ) → Sizes
 sizesFrom ns ms = record { names = getD ns 0 0; reservations = getD ns 1 0; used = getD ms 0 0; live = getD ms 1 0 }
 
 -- the head is its three numbers, the sizes are their two pairs
-pub head-fields : (xs : List ℕ) (h : Head) → fields 16 headWidths xs ≡ headNumbers h → headOf xs ≡ h
+pub head-fields : (xs : List ℕ) (h : Head) → fields ledgerHeadOffset headWidths xs ≡ headNumbers h → headOf xs ≡ h
 unfolding headFrom
 head-fields xs h e = ap headFrom e
 
-pub sizes-fields : (xs : List ℕ) (s : Sizes) → fields 0 pairWidths xs ≡ s .names ∷ s .reservations ∷ [] → fields 40 pairWidths xs ≡ s .used ∷ s .live ∷ [] → sizesOf xs ≡ s
+pub sizes-fields : (xs : List ℕ) (s : Sizes) → fields capacityOffset pairWidths xs ≡ s .names ∷ s .reservations ∷ [] → fields countsOffset pairWidths xs ≡ s .used ∷ s .live ∷ [] → sizesOf xs ≡ s
 unfolding sizesFrom
 sizes-fields xs s e f = ap₂ sizesFrom e f
 
-pub bytes-of-head : (xs : List ℕ) → All IsByte xs → 56 ≤ length xs → headBytes (headOf xs) ≡ row 24 16 xs
-bytes-of-head xs h l = bytes-of-fields 16 headWidths xs h (omega arith)
+pub bytes-of-head : (xs : List ℕ) → All IsByte xs → headSize ≤ length xs → headBytes (headOf xs) ≡ row ledgerHeadSize ledgerHeadOffset xs
+bytes-of-head xs h l = bytes-of-fields ledgerHeadOffset headWidths xs h (omega arith)
 
-pub bytes-of-capacity : (xs : List ℕ) → All IsByte xs → 56 ≤ length xs → pairBytes (sizesOf xs .names) (sizesOf xs .reservations) ≡ row 16 0 xs
-bytes-of-capacity xs h l = bytes-of-fields 0 pairWidths xs h (omega arith)
+pub bytes-of-capacity : (xs : List ℕ) → All IsByte xs → headSize ≤ length xs → pairBytes (sizesOf xs .names) (sizesOf xs .reservations) ≡ row pairSize capacityOffset xs
+bytes-of-capacity xs h l = bytes-of-fields capacityOffset pairWidths xs h (omega arith)
 
-pub bytes-of-counts : (xs : List ℕ) → All IsByte xs → 56 ≤ length xs → pairBytes (sizesOf xs .used) (sizesOf xs .live) ≡ row 16 40 xs
-bytes-of-counts xs h l = bytes-of-fields 40 pairWidths xs h (omega arith)
+pub bytes-of-counts : (xs : List ℕ) → All IsByte xs → headSize ≤ length xs → pairBytes (sizesOf xs .used) (sizesOf xs .live) ≡ row pairSize countsOffset xs
+bytes-of-counts xs h l = bytes-of-fields countsOffset pairWidths xs h (omega arith)
 
-pub head-fits : (xs : List ℕ) → All IsByte xs → 56 ≤ length xs → HeadFits (headOf xs)
+pub head-fits : (xs : List ℕ) → All IsByte xs → headSize ≤ length xs → HeadFits (headOf xs)
 head-fits xs h l =
-    let f = fields-fit 16 headWidths xs h (omega arith) in
+    let f = fields-fit ledgerHeadOffset headWidths xs h (omega arith) in
     record { nextId = f .0; lastVersion = f .1 .0; baseline = f .1 .1 .0 }
 
-pub sizes-fit : (xs : List ℕ) → All IsByte xs → 56 ≤ length xs → SizesFit (sizesOf xs)
+pub sizes-fit : (xs : List ℕ) → All IsByte xs → headSize ≤ length xs → SizesFit (sizesOf xs)
 sizes-fit xs h l =
-    let f = fields-fit 0 pairWidths xs h (omega arith) in
-    let g = fields-fit 40 pairWidths xs h (omega arith) in
+    let f = fields-fit capacityOffset pairWidths xs h (omega arith) in
+    let g = fields-fit countsOffset pairWidths xs h (omega arith) in
     record { names = f .0; reservations = f .1 .0; used = g .0; live = g .1 .0 }

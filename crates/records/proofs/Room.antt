@@ -10,12 +10,13 @@ use lib.Seq.{take-all, length-take-le}
 use Rattle.rules.specs.Lists.{All}
 use Rattle.rules.specs.RoomAndSoundLedger.{IsByte}
 use Rattle.numbers.proofs.Bytes.{all-take, all-drop}
+use Rattle.records.specs.Layout.{placeStart, ledgerHeadOffset, ledgerHeadSize, countsOffset, capacityOffset, pairSize, placeSize, bookingSize, headSize, pairWidths, headWidths}
 use Rattle.records.specs.declared.Place.{Place}
 use Rattle.records.specs.declared.Booking.{Booking}
 use Rattle.records.specs.declared.Head.{Head}
 use Rattle.records.specs.declared.Sizes.{Sizes}
 use Rattle.records.specs.Rows.{row, put, rows, table}
-use Rattle.records.specs.Records.{placeOf, placeBytes, PlaceFits, bookingOf, bookingBytes, BookingFits, headOf, headWidths, headNumbers, headBytes, HeadFits, sizesOf, pairWidths, pairBytes, SizesFit, places, bookings}
+use Rattle.records.specs.Records.{placeOf, placeBytes, PlaceFits, bookingOf, bookingBytes, BookingFits, headOf, headNumbers, headBytes, HeadFits, sizesOf, pairBytes, SizesFit, places, bookings}
 use Rattle.records.proofs.Rows.{row-join, put-length, put-here, joined, joined-rows, table-at, table-put, table-apart}
 use Rattle.records.proofs.Fields.{fields, fields-read, fields-apart}
 use Rattle.records.proofs.Records.{place-length, place-of-bytes, bytes-of-place, booking-length, booking-of-bytes, bytes-of-booking, head-length, pair-length, head-fields, sizes-fields, bytes-of-head, bytes-of-capacity, bytes-of-counts}
@@ -23,19 +24,19 @@ use Rattle.records.proofs.Records.{place-length, place-of-bytes, bytes-
 -- ── what is put apart leaves the head and the sizes ────────────────────────────────────────────
 
 module _ (m j : ℕ) (xs w : List ℕ) (fits : m + j ≤ length xs) (is-row : length w ≡ j) where
-  pub head-apart : (40 ≤ m) ⊎ (m + j ≤ 16) → headOf (put m j xs w) ≡ headOf xs
-  head-apart h = head-fields (put m j xs w) (headOf xs) (fields-apart 16 headWidths m j xs w fits is-row h)
+  pub head-apart : (countsOffset ≤ m) ⊎ (m + j ≤ ledgerHeadOffset) → headOf (put m j xs w) ≡ headOf xs
+  head-apart h = head-fields (put m j xs w) (headOf xs) (fields-apart ledgerHeadOffset headWidths m j xs w fits is-row h)
 
-  pub sizes-apart : (16 ≤ m) ⊎ (m + j ≤ 0) → (56 ≤ m) ⊎ (m + j ≤ 40) → sizesOf (put m j xs w) ≡ sizesOf xs
-  sizes-apart h k = sizes-fields (put m j xs w) (sizesOf xs) (fields-apart 0 pairWidths m j xs w fits is-row h) (fields-apart 40 pairWidths m j xs w fits is-row k)
+  pub sizes-apart : (capacityOffset + pairSize ≤ m) ⊎ (m + j ≤ capacityOffset) → (countsOffset + pairSize ≤ m) ⊎ (m + j ≤ countsOffset) → sizesOf (put m j xs w) ≡ sizesOf xs
+  sizes-apart h k = sizes-fields (put m j xs w) (sizesOf xs) (fields-apart capacityOffset pairWidths m j xs w fits is-row h) (fields-apart countsOffset pairWidths m j xs w fits is-row k)
 
 -- ── what each load reads ───────────────────────────────────────────────────────────────────────
 
-pub place-at : (t i : ℕ) (xs : List ℕ) → i < t → getD (places t xs) i (placeOf []) ≡ placeOf (row 66 (56 + 66 * i) xs)
-place-at t = table-at placeOf 66 56 t
+pub place-at : (t i : ℕ) (xs : List ℕ) → i < t → getD (places t xs) i (placeOf []) ≡ placeOf (row placeSize (placeStart i) xs)
+place-at t = table-at placeOf placeSize headSize t
 
-pub booking-at : (base r i : ℕ) (xs : List ℕ) → i < r → getD (bookings base r xs) i (bookingOf []) ≡ bookingOf (row 18 (base + 18 * i) xs)
-booking-at base r = table-at bookingOf 18 base r
+pub booking-at : (base r i : ℕ) (xs : List ℕ) → i < r → getD (bookings base r xs) i (bookingOf []) ≡ bookingOf (row bookingSize (base + bookingSize * i) xs)
+booking-at base r = table-at bookingOf bookingSize base r
 
 -- ── what each store means ──────────────────────────────────────────────────────────────────────
 
@@ -46,87 +47,87 @@ pub record Holds (t base r : ℕ) (xs : List ℕ) (s : Sizes) (h : Head) (ps : L
   pub places : places t xs ≡ ps
   pub bookings : bookings base r xs ≡ bs
 
-module _ (t base r : ℕ) (xs : List ℕ) (after : 56 + 66 * t ≤ base) (all : base + 18 * r ≤ length xs) where
+module _ (t base r : ℕ) (xs : List ℕ) (after : placeStart t ≤ base) (all : base + bookingSize * r ≤ length xs) where
   pub place-stored : (i : ℕ) (p : Place) → i < t → PlaceFits p
-      → Holds t base r (put (56 + 66 * i) 66 xs (placeBytes p)) (sizesOf xs) (headOf xs) (set (places t xs) i p) (bookings base r xs)
+      → Holds t base r (put (placeStart i) placeSize xs (placeBytes p)) (sizesOf xs) (headOf xs) (set (places t xs) i p) (bookings base r xs)
   place-stored i p h f =
-      let from = 56 + 66 * i in
+      let from = placeStart i in
       let w = placeBytes p in
-      let fits : from + 66 ≤ length xs = omega arith in
+      let fits : from + placeSize ≤ length xs = omega arith in
       let l = place-length p (f .nameBytes) in
       record {
-        sizes = sizes-apart from 66 xs w fits l (inl (omega arith)) (inl (omega arith));
-        head = head-apart from 66 xs w fits l (inl (omega arith));
-        places = table-put placeOf 66 56 t i xs w p h l (place-of-bytes p f) (omega arith);
-        bookings = table-apart bookingOf 18 base r from 66 xs w fits l (inr (omega arith));
+        sizes = sizes-apart from placeSize xs w fits l (inl (omega arith)) (inl (omega arith));
+        head = head-apart from placeSize xs w fits l (inl (omega arith));
+        places = table-put placeOf placeSize headSize t i xs w p h l (place-of-bytes p f) (omega arith);
+        bookings = table-apart bookingOf bookingSize base r from placeSize xs w fits l (inr (omega arith));
       }
 
   pub booking-stored : (i : ℕ) (b : Booking) → i < r → BookingFits b
-      → Holds t base r (put (base + 18 * i) 18 xs (bookingBytes b)) (sizesOf xs) (headOf xs) (places t xs) (set (bookings base r xs) i b)
+      → Holds t base r (put (base + bookingSize * i) bookingSize xs (bookingBytes b)) (sizesOf xs) (headOf xs) (places t xs) (set (bookings base r xs) i b)
   booking-stored i b h f =
-      let from = base + 18 * i in
+      let from = base + bookingSize * i in
       let w = bookingBytes b in
-      let fits : from + 18 ≤ length xs = omega arith in
+      let fits : from + bookingSize ≤ length xs = omega arith in
       let l = booking-length b in
       record {
-        sizes = sizes-apart from 18 xs w fits l (inl (omega arith)) (inl (omega arith));
-        head = head-apart from 18 xs w fits l (inl (omega arith));
-        places = table-apart placeOf 66 56 t from 18 xs w fits l (inl (omega arith));
-        bookings = table-put bookingOf 18 base r i xs w b h l (booking-of-bytes b f) all;
+        sizes = sizes-apart from bookingSize xs w fits l (inl (omega arith)) (inl (omega arith));
+        head = head-apart from bookingSize xs w fits l (inl (omega arith));
+        places = table-apart placeOf placeSize headSize t from bookingSize xs w fits l (inl (omega arith));
+        bookings = table-put bookingOf bookingSize base r i xs w b h l (booking-of-bytes b f) all;
       }
 
-  pub head-stored : (h : Head) → HeadFits h → Holds t base r (put 16 24 xs (headBytes h)) (sizesOf xs) h (places t xs) (bookings base r xs)
+  pub head-stored : (h : Head) → HeadFits h → Holds t base r (put ledgerHeadOffset ledgerHeadSize xs (headBytes h)) (sizesOf xs) h (places t xs) (bookings base r xs)
   head-stored h f =
       let w = headBytes h in
-      let fits : 16 + 24 ≤ length xs = omega arith in
+      let fits : ledgerHeadOffset + ledgerHeadSize ≤ length xs = omega arith in
       let l = head-length h in
       record {
-        sizes = sizes-apart 16 24 xs w fits l (inl (omega arith)) (inr (omega arith));
-        head = head-fields (put 16 24 xs w) h (fields-read 16 headWidths (headNumbers h) (put 16 24 xs w) (drop 24 (drop 16 xs)) (f .nextId, (f .lastVersion, (f .baseline, tt))) (put-here 16 24 xs w fits l));
-        places = table-apart placeOf 66 56 t 16 24 xs w fits l (inr (omega arith));
-        bookings = table-apart bookingOf 18 base r 16 24 xs w fits l (inr (omega arith));
+        sizes = sizes-apart ledgerHeadOffset ledgerHeadSize xs w fits l (inl (omega arith)) (inr (omega arith));
+        head = head-fields (put ledgerHeadOffset ledgerHeadSize xs w) h (fields-read ledgerHeadOffset headWidths (headNumbers h) (put ledgerHeadOffset ledgerHeadSize xs w) (drop ledgerHeadSize (drop ledgerHeadOffset xs)) (f .nextId, (f .lastVersion, (f .baseline, tt))) (put-here ledgerHeadOffset ledgerHeadSize xs w fits l));
+        places = table-apart placeOf placeSize headSize t ledgerHeadOffset ledgerHeadSize xs w fits l (inr (omega arith));
+        bookings = table-apart bookingOf bookingSize base r ledgerHeadOffset ledgerHeadSize xs w fits l (inr (omega arith));
       }
 
   -- one of the two pairs of sizes, which stand before the tables
-  pair-stored : (from : ℕ) (a b : ℕ) (s : Sizes) → from + 16 ≤ 56 → (40 ≤ from) ⊎ (from + 16 ≤ 16) → sizesOf (put from 16 xs (pairBytes a b)) ≡ s
-      → Holds t base r (put from 16 xs (pairBytes a b)) s (headOf xs) (places t xs) (bookings base r xs)
+  pair-stored : (from : ℕ) (a b : ℕ) (s : Sizes) → from + pairSize ≤ headSize → (countsOffset ≤ from) ⊎ (from + pairSize ≤ ledgerHeadOffset) → sizesOf (put from pairSize xs (pairBytes a b)) ≡ s
+      → Holds t base r (put from pairSize xs (pairBytes a b)) s (headOf xs) (places t xs) (bookings base r xs)
   pair-stored from a b s h k e =
       let w = pairBytes a b in
-      let fits : from + 16 ≤ length xs = omega arith in
+      let fits : from + pairSize ≤ length xs = omega arith in
       let l = pair-length a b in
       record {
         sizes = e;
-        head = head-apart from 16 xs w fits l k;
-        places = table-apart placeOf 66 56 t from 16 xs w fits l (inr h);
-        bookings = table-apart bookingOf 18 base r from 16 xs w fits l (inr (omega arith));
+        head = head-apart from pairSize xs w fits l k;
+        places = table-apart placeOf placeSize headSize t from pairSize xs w fits l (inr h);
+        bookings = table-apart bookingOf bookingSize base r from pairSize xs w fits l (inr (omega arith));
       }
 
   -- the pair that is read back
-  pair-read : (from a b : ℕ) → from + 16 ≤ 56 → a < 2 ^ 64 → b < 2 ^ 64 → fields from pairWidths (put from 16 xs (pairBytes a b)) ≡ a ∷ b ∷ []
-  pair-read from a b h f g = fields-read from pairWidths (a ∷ b ∷ []) (put from 16 xs (pairBytes a b)) (drop 16 (drop from xs)) (f, (g, tt)) (put-here from 16 xs (pairBytes a b) (omega arith) (pair-length a b))
+  pair-read : (from a b : ℕ) → from + pairSize ≤ headSize → a < 2 ^ 64 → b < 2 ^ 64 → fields from pairWidths (put from pairSize xs (pairBytes a b)) ≡ a ∷ b ∷ []
+  pair-read from a b h f g = fields-read from pairWidths (a ∷ b ∷ []) (put from pairSize xs (pairBytes a b)) (drop pairSize (drop from xs)) (f, (g, tt)) (put-here from pairSize xs (pairBytes a b) (omega arith) (pair-length a b))
 
   pub counts-stored : (used live : ℕ) → used < 2 ^ 64 → live < 2 ^ 64
-      → Holds t base r (put 40 16 xs (pairBytes used live)) (record { names = sizesOf xs .names; reservations = sizesOf xs .reservations; used = used; live = live }) (headOf xs) (places t xs) (bookings base r xs)
+      → Holds t base r (put countsOffset pairSize xs (pairBytes used live)) (record { names = sizesOf xs .names; reservations = sizesOf xs .reservations; used = used; live = live }) (headOf xs) (places t xs) (bookings base r xs)
   counts-stored used live f g =
-      pair-stored 40 used live _ (omega arith) (inl (omega arith))
-      (sizes-fields (put 40 16 xs (pairBytes used live)) _
-      (fields-apart 0 pairWidths 40 16 xs (pairBytes used live) (omega arith) (pair-length used live) (inl (omega arith)))
-      (pair-read 40 used live (omega arith) f g))
+      pair-stored countsOffset used live _ (omega arith) (inl (omega arith))
+      (sizes-fields (put countsOffset pairSize xs (pairBytes used live)) _
+      (fields-apart capacityOffset pairWidths countsOffset pairSize xs (pairBytes used live) (omega arith) (pair-length used live) (inl (omega arith)))
+      (pair-read countsOffset used live (omega arith) f g))
 
   pub capacity-stored : (names reservations : ℕ) → names < 2 ^ 64 → reservations < 2 ^ 64
-      → Holds t base r (put 0 16 xs (pairBytes names reservations)) (record { names = names; reservations = reservations; used = sizesOf xs .used; live = sizesOf xs .live }) (headOf xs) (places t xs) (bookings base r xs)
+      → Holds t base r (put capacityOffset pairSize xs (pairBytes names reservations)) (record { names = names; reservations = reservations; used = sizesOf xs .used; live = sizesOf xs .live }) (headOf xs) (places t xs) (bookings base r xs)
   capacity-stored names reservations f g =
-      pair-stored 0 names reservations _ (omega arith) (inr (omega arith))
-      (sizes-fields (put 0 16 xs (pairBytes names reservations)) _
-      (pair-read 0 names reservations (omega arith) f g)
-      (fields-apart 40 pairWidths 0 16 xs (pairBytes names reservations) (omega arith) (pair-length names reservations) (inr (omega arith))))
+      pair-stored capacityOffset names reservations _ (omega arith) (inr (omega arith))
+      (sizes-fields (put capacityOffset pairSize xs (pairBytes names reservations)) _
+      (pair-read capacityOffset names reservations (omega arith) f g)
+      (fields-apart countsOffset pairWidths capacityOffset pairSize xs (pairBytes names reservations) (omega arith) (pair-length names reservations) (inr (omega arith))))
 
-pub sizes-stored : (t base r : ℕ) (xs : List ℕ) → 56 + 66 * t ≤ base → base + 18 * r ≤ length xs → (s : Sizes) → SizesFit s
-    → Holds t base r (put 40 16 (put 0 16 xs (pairBytes (s .names) (s .reservations))) (pairBytes (s .used) (s .live))) s (headOf xs) (places t xs) (bookings base r xs)
+pub sizes-stored : (t base r : ℕ) (xs : List ℕ) → placeStart t ≤ base → base + bookingSize * r ≤ length xs → (s : Sizes) → SizesFit s
+    → Holds t base r (put countsOffset pairSize (put capacityOffset pairSize xs (pairBytes (s .names) (s .reservations))) (pairBytes (s .used) (s .live))) s (headOf xs) (places t xs) (bookings base r xs)
 sizes-stored t base r xs after all s f =
     let w = pairBytes (s .names) (s .reservations) in
-    let ys = put 0 16 xs w in
-    let l : length ys ≡ length xs = put-length 0 16 xs w (omega arith) (pair-length (s .names) (s .reservations)) in
+    let ys = put capacityOffset pairSize xs w in
+    let l : length ys ≡ length xs = put-length capacityOffset pairSize xs w (omega arith) (pair-length (s .names) (s .reservations)) in
     let a = capacity-stored t base r xs after all (s .names) (s .reservations) (f .names) (f .reservations) in
     let b = counts-stored t base r ys after (omega arith) (s .used) (s .live) (f .used) (f .live) in
     record {
@@ -153,19 +154,20 @@ module _ {A : Type 0} (read : List ℕ → A) (write : A → List ℕ) (k : ℕ)
 abbrev pub roomBytes : Sizes → Head → List Place → List Booking → List ℕ
 roomBytes s h ps bs = pairBytes (s .names) (s .reservations) ++ (headBytes h ++ (pairBytes (s .used) (s .live) ++ (joined (map placeBytes ps) ++ joined (map bookingBytes bs))))
 
-pub bytes-of-room : (t r : ℕ) (xs : List ℕ) → All IsByte xs → length xs ≡ 56 + 66 * t + 18 * r
-    → roomBytes (sizesOf xs) (headOf xs) (places t xs) (bookings (56 + 66 * t) r xs) ≡ xs
+pub bytes-of-room : (t r : ℕ) (xs : List ℕ) → All IsByte xs → length xs ≡ placeStart t + bookingSize * r
+    → roomBytes (sizesOf xs) (headOf xs) (places t xs) (bookings (placeStart t) r xs) ≡ xs
 bytes-of-room t r xs h l =
-    let p = table-bytes placeOf placeBytes 66 bytes-of-place 56 t xs h (omega arith) in
-    let b = table-bytes bookingOf bookingBytes 18 bytes-of-booking (56 + 66 * t) r xs h (omega arith) in
-    let tables = ap₂ _++_ p b ∙ sym (row-join (66 * t) (18 * r) 56 xs) in
-    let counts = ap₂ _++_ (bytes-of-counts xs h (omega arith)) tables ∙ sym (row-join 16 (66 * t + 18 * r) 40 xs) in
-    let head = ap₂ _++_ (bytes-of-head xs h (omega arith)) counts ∙ sym (row-join 24 (16 + (66 * t + 18 * r)) 16 xs) in
-    ap₂ _++_ (bytes-of-capacity xs h (omega arith)) head ∙ sym (row-join 16 (24 + (16 + (66 * t + 18 * r))) 0 xs) ∙ take-all (16 + (24 + (16 + (66 * t + 18 * r)))) xs (omega arith)
+    let p = table-bytes placeOf placeBytes placeSize bytes-of-place headSize t xs h (omega arith) in
+    let b = table-bytes bookingOf bookingBytes bookingSize bytes-of-booking (placeStart t) r xs h (omega arith) in
+    let tables = ap₂ _++_ p b ∙ sym (row-join (placeSize * t) (bookingSize * r) headSize xs) in
+    let counts = ap₂ _++_ (bytes-of-counts xs h (omega arith)) tables ∙ sym (row-join pairSize (placeSize * t + bookingSize * r) countsOffset xs) in
+    let head = ap₂ _++_ (bytes-of-head xs h (omega arith)) counts ∙ sym (row-join ledgerHeadSize (pairSize + (placeSize * t + bookingSize * r)) ledgerHeadOffset xs) in
+    ap₂ _++_ (bytes-of-capacity xs h (omega arith)) head ∙ sym (row-join pairSize (ledgerHeadSize + (pairSize + (placeSize * t + bookingSize * r))) capacityOffset xs)
+    ∙ take-all (pairSize + (ledgerHeadSize + (pairSize + (placeSize * t + bookingSize * r)))) xs (omega arith)
 
 -- so two rooms that hold the same records are the same bytes
-pub same-room : (t r : ℕ) (xs ys : List ℕ) → All IsByte xs → All IsByte ys → length xs ≡ 56 + 66 * t + 18 * r → length ys ≡ 56 + 66 * t + 18 * r
-    → Holds t (56 + 66 * t) r xs (sizesOf ys) (headOf ys) (places t ys) (bookings (56 + 66 * t) r ys) → xs ≡ ys
+pub same-room : (t r : ℕ) (xs ys : List ℕ) → All IsByte xs → All IsByte ys → length xs ≡ placeStart t + bookingSize * r → length ys ≡ placeStart t + bookingSize * r
+    → Holds t (placeStart t) r xs (sizesOf ys) (headOf ys) (places t ys) (bookings (placeStart t) r ys) → xs ≡ ys
 same-room t r xs ys f g k l h =
     sym (bytes-of-room t r xs f k)
     ∙ (λ j. roomBytes (h .sizes j) (h .head j) (h .places j) (h .bookings j))

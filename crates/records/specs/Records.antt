@@ -1,17 +1,16 @@
--- The room's layout. Every byte of it belongs to a field, so that a room that decodes to the same records is the same bytes.
---   0  T, R (8 bytes each)    16  next id, last version, baseline    40  names in use, live bookings
---  56  T places of 66 bytes: initial, remaining, reserved, committed, limit (8 each), account flag, name length, 24 name bytes
---  then R bookings of 18 bytes: id, amount (8 each), the number of its airline's place (2)
+-- The records of a room: each as it is read from its bytes, as its bytes, and what fits them. specs/Layout.antt says where each field stands.
 use mathlib.Core.Path.{_≡_}
 use mathlib.Core.List.{List, [], _∷_, _++_}
 use Prim.Native.Nat.{ℕ, _^_, _<_}
 use lib.ListN.{length}
+use Rattle.rules.specs.RoomAndSoundLedger.{longestName}
 use Rattle.numbers.specs.LittleEndian.{littleNumber}
 use Rattle.records.specs.declared.Place.{Place}
 use Rattle.records.specs.declared.Booking.{Booking}
 use Rattle.records.specs.declared.Head.{Head}
 use Rattle.records.specs.declared.Sizes.{Sizes}
 use Rattle.records.specs.Rows.{row, table, fieldBytes}
+use Rattle.records.specs.Layout.{pairWidths, headWidths, capacityOffset, reservationsOffset, ledgerHeadOffset, lastVersionOffset, baselineOffset, countsOffset, liveOffset, headSize, placeWidths, remainingOffset, reservedOffset, committedOffset, limitOffset, accountOffset, nameOffset, nameBytesOffset, placeSize, bookingWidths, amountOffset, ownerOffset, bookingSize}
 
 -- ── a place ────────────────────────────────────────────────────────────────────────────────────
 
@@ -19,16 +18,13 @@ abbrev pub placeOf : List ℕ → Place
 placeOf w =
     record {
       initial = littleNumber (row 8 0 w);
-      remaining = littleNumber (row 8 8 w);
-      reserved = littleNumber (row 8 16 w);
-      committed = littleNumber (row 8 24 w);
-      limit = littleNumber (row 8 32 w);
-      account = littleNumber (row 1 40 w);
-      name = record { length = littleNumber (row 1 41 w); bytes = row 24 42 w };
+      remaining = littleNumber (row 8 remainingOffset w);
+      reserved = littleNumber (row 8 reservedOffset w);
+      committed = littleNumber (row 8 committedOffset w);
+      limit = littleNumber (row 8 limitOffset w);
+      account = littleNumber (row 1 accountOffset w);
+      name = record { length = littleNumber (row 1 nameOffset w); bytes = row longestName nameBytesOffset w };
     }
-
-abbrev pub placeWidths : List ℕ
-placeWidths = 8 ∷ 8 ∷ 8 ∷ 8 ∷ 8 ∷ 1 ∷ 1 ∷ []
 
 abbrev pub placeNumbers : Place → List ℕ
 placeNumbers p = p .initial ∷ p .remaining ∷ p .reserved ∷ p .committed ∷ p .limit ∷ p .account ∷ p .name .length ∷ []
@@ -44,15 +40,12 @@ pub record PlaceFits (p : Place) : Type 0 where
   pub limit : p .limit < 2 ^ 64
   pub account : p .account < 2 ^ 8
   pub nameLength : p .name .length < 2 ^ 8
-  pub nameBytes : length (p .name .bytes) ≡ 24
+  pub nameBytes : length (p .name .bytes) ≡ longestName
 
 -- ── a booking ──────────────────────────────────────────────────────────────────────────────────
 
 abbrev pub bookingOf : List ℕ → Booking
-bookingOf w = record { id = littleNumber (row 8 0 w); amount = littleNumber (row 8 8 w); owner = littleNumber (row 2 16 w) }
-
-abbrev pub bookingWidths : List ℕ
-bookingWidths = 8 ∷ 8 ∷ 2 ∷ []
+bookingOf w = record { id = littleNumber (row 8 0 w); amount = littleNumber (row 8 amountOffset w); owner = littleNumber (row 2 ownerOffset w) }
 
 abbrev pub bookingNumbers : Booking → List ℕ
 bookingNumbers b = b .id ∷ b .amount ∷ b .owner ∷ []
@@ -68,10 +61,12 @@ pub record BookingFits (b : Booking) : Type 0 where
 -- ── the head ───────────────────────────────────────────────────────────────────────────────────
 
 abbrev pub headOf : List ℕ → Head
-headOf xs = record { «next_id» = littleNumber (row 8 16 xs); «last_version» = littleNumber (row 8 24 xs); baseline = littleNumber (row 8 32 xs) }
-
-abbrev pub headWidths : List ℕ
-headWidths = 8 ∷ 8 ∷ 8 ∷ []
+headOf xs =
+    record {
+      «next_id» = littleNumber (row 8 ledgerHeadOffset xs);
+      «last_version» = littleNumber (row 8 lastVersionOffset xs);
+      baseline = littleNumber (row 8 baselineOffset xs);
+    }
 
 abbrev pub headNumbers : Head → List ℕ
 headNumbers h = h .«next_id» ∷ h .«last_version» ∷ h .baseline ∷ []
@@ -89,14 +84,11 @@ pub record HeadFits (h : Head) : Type 0 where
 abbrev pub sizesOf : List ℕ → Sizes
 sizesOf xs =
     record {
-      names = littleNumber (row 8 0 xs);
-      reservations = littleNumber (row 8 8 xs);
-      used = littleNumber (row 8 40 xs);
-      live = littleNumber (row 8 48 xs);
+      names = littleNumber (row 8 capacityOffset xs);
+      reservations = littleNumber (row 8 reservationsOffset xs);
+      used = littleNumber (row 8 countsOffset xs);
+      live = littleNumber (row 8 liveOffset xs);
     }
-
-abbrev pub pairWidths : List ℕ
-pairWidths = 8 ∷ 8 ∷ []
 
 abbrev pub pairBytes : ℕ → ℕ → List ℕ
 pairBytes a b = fieldBytes pairWidths (a ∷ b ∷ [])
@@ -110,7 +102,7 @@ pub record SizesFit (s : Sizes) : Type 0 where
 -- ── the tables ─────────────────────────────────────────────────────────────────────────────────
 
 abbrev pub places : ℕ → List ℕ → List Place
-places t = table placeOf 66 56 t
+places t = table placeOf placeSize headSize t
 
 abbrev pub bookings : (base r : ℕ) → List ℕ → List Booking
-bookings base r = table bookingOf 18 base r
+bookings base r = table bookingOf bookingSize base r

@@ -34,6 +34,7 @@ use Rattle.room.proofs.Steps.{BookingFound, live-at, not-live, booking-found}
 use Rattle.room.proofs.Seating.{seat-found, kept-account, kept-limit, seat-sound}
 use Rattle.room.proofs.Settling.{ended-contents}
 use Rattle.rules.proofs.ByIndex.{any-default, all-read}
+use Rattle.records.specs.Layout.{bookingSize}
 use Rattle.room.proofs.InRoom.{loaded-booking}
 use Rattle.room.proofs.SoundRoom.{places-are, bookings-are, sized}
 use Rattle.reservations.specs.Steps.{noBooking, bookingAt, dueAt}
@@ -104,11 +105,11 @@ module _ (xs : List ℕ) (L : Ledger) (room : IsRoom xs L) where
     unfolding keptSeat
     within-reserved = kept-reserved (b .amount) (reservedFor (b .name) bs) (own .account) (own .limit) owns (by-name L (room .sound) .accounts (b .name)) (all-read (λ c. c .amount ≤ reservedFor (c .name) bs) noBooking bs j (part-of-sum bs) below)
 
-    pub booking-is : (t : Sizes) → t ≡ sizesOf xs → (k : Booking) → k ≡ bookingOf (row 18 (baseOf (t .names) + 18 * j) xs) → k ≡ bookingRecord ps b
+    pub booking-is : (t : Sizes) → t ≡ sizesOf xs → (k : Booking) → k ≡ bookingOf (row bookingSize (baseOf (t .names) + bookingSize * j) xs) → k ≡ bookingRecord ps b
     unfolding contentsOf
     booking-is t e k q =
         let live : sizesOf xs .live ≡ length bs = live-is in
-        q ∙ ap (λ (u : Sizes). bookingOf (row 18 (baseOf (u .names) + 18 * j) xs)) e
+        q ∙ ap (λ (u : Sizes). bookingOf (row bookingSize (baseOf (u .names) + bookingSize * j) xs)) e
         ∙ loaded-booking xs (sized xs L room) j (bookingRecord ps noBooking) (omega arith)
         ∙ ap (λ cs. getD cs j (bookingRecord ps noBooking)) (bookings-are xs L room)
         ∙ List·getD-map (bookingRecord ps) bs j noBooking

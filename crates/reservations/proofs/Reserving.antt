@@ -8,7 +8,7 @@ use borrow.Author.Tests.{lt-ltb, le-ltb, eqb-false}
 use lib.Dec.{eqb}
 use lib.IntN.{ℤ, pos}
 use lib.ListN.{length}
-use Rattle.rules.specs.RoomAndSoundLedger.{M, Name, Seat as RulesSeat, Place as RulesPlace, Ledger, withPlaces, withBookings, seatIn, hasAccount, holdsPlace, AddsUp}
+use Rattle.rules.specs.RoomAndSoundLedger.{M, Name, Seat as RulesSeat, Place as RulesPlace, Ledger, withPlaces, withBookings, seatIn, hasAccount, holdsPlace, AddsUp, longestName}
 use Rattle.rules.specs.AnswerNumbers.{Amount, Identifier as TheIdentifier, Reply, done, NameTooLong, ReservationsFull, Insufficient, Refusal, replyOf, outcome, refused}
 use Rattle.rules.specs.AccountRules.{Move, refuse, book, reserveRule, nextIdIsM, reserve, operate, onName, perform, drawn, seated}
 use Rattle.rules.specs.Domain.{IsBytes, IsAmount}
@@ -104,13 +104,13 @@ module _ (xs : List ℕ) (L : Ledger) (room : IsRoom xs L) (a : Name) where
         omega (arith, number-is i e, number-below a ps holds)
 
   module _ (z : ℤ) where
-    pub too-long : 24 < length a → Performed (λ K. operate K (reserve a z)) L (replyOf NameTooLong) xs
-    too-long long = stays (reserve a z) L xs room _ (replyOf NameTooLong) (unfold operate onName perform in rw (lt-ltb 24 (length a) long)) refl
+    pub too-long : longestName < length a → Performed (λ K. operate K (reserve a z)) L (replyOf NameTooLong) xs
+    too-long long = stays (reserve a z) L xs room _ (replyOf NameTooLong) (unfold operate onName perform in rw (lt-ltb longestName (length a) long)) refl
 
     abbrev ruleAt : Seat → ℕ → Move
     ruleAt s n = reserveRule z (eqb n M) (accountOf s) (s .limit)
 
-    pub decides : length a ≤ 24 → (f : Found) → f ≡ placeOfName a searched → (s : Seat) → s ≡ seatFound f searched → (h : Head) → h ≡ headOf xs
+    pub decides : length a ≤ longestName → (f : Found) → f ≡ placeOfName a searched → (s : Seat) → s ≡ seatFound f searched → (h : Head) → h ≡ headOf xs
         → (r : Reserving) → reservingMove z r ≡ ruleAt s (h .«next_id») → ReservingSound r → Decided L a z r
     decides short f e s q h k r m sound =
         let own : RulesSeat = seatIn a ps in
@@ -118,7 +118,7 @@ module _ (xs : List ℕ) (L : Ledger) (room : IsRoom xs L) (a : Name) where
         let is : reservingMove z r ≡ rule =
         m ∙ ap (λ t. ruleAt t (h .«next_id»)) (seat-is f e s q) ∙ ap (λ (g : Head). ruleAt (keptSeat own) (g .«next_id»)) (k ∙ head-is xs L room)
         ∙ ap₂ (λ c l. reserveRule z (nextIdIsM L) c l) (kept-account own) (kept-limit own) in
-        let named : operate L (reserve a z) ≡ perform L a rule = unfold operate onName in rw (le-ltb 24 (length a) short) in
+        let named : operate L (reserve a z) ≡ perform L a rule = unfold operate onName in rw (le-ltb longestName (length a) short) in
         record {
           move = named ∙ ap (perform L a) (sym is);
           fits = subst (MoveFits (nextIdIsM L) (own .account)) (sym is)

@@ -1,5 +1,4 @@
 // Reserve, commit and release on a ledger already known to be sound, which they leave sound.
-use room::Found;
 use moves::Committing;
 use moves::Releasing;
 use moves::Reserving;
@@ -9,6 +8,7 @@ use numbers::Microcents;
 use numbers::Sign;
 use records::Booking;
 use records::Head;
+use room::Found;
 ghost use mathlib.Core.Path.{_≡_};
 ghost use mathlib.Core.Option.{none};
 ghost use Prim.Native.Nat.{_≤_, _<_};
@@ -94,7 +94,7 @@ pub fn reserve(room: &mut [u8], part: &[u8], cost: Microcents) -> Reserved
     requires { ⌜ SoundRoom (now room) ⌝ }
     ensures { λ r. ⌜ Performs (λ K. operate K (reserve (now (part .entry)) (cost .0))) (now (room .entry)) (reservedReply r) (now (room .exit)) ⌝ }
 {
-    if 24 < part.len() {
+    if rules::LONGEST_NAME < part.len() {
         return Reserved::NameTooLong;
     }
     let found = lookup::find(room, part);
@@ -128,7 +128,7 @@ fn due_at(room: &[u8], j: usize) -> Due
     ensures { λ r. ⌜ OfRoom (now (room .entry)) (λ L. r ≡ dueAt L j) ⌝ }
 {
     let sizes = records::load_sizes(room);
-    let base = 56 + 66 * (sizes.names as usize);
+    let base = records::HEAD_SIZE + records::PLACE_SIZE * (sizes.names as usize);
     let booking = records::load_booking(room, base, j);
     let owner = booking.owner as usize;
     let seat = seats::seat_at(room, Found::At(owner));

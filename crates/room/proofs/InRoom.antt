@@ -6,6 +6,7 @@ use native.Mathlib.Omega.{arith}
 use lib.ListN.{length, take, drop, getD}
 use lib.Seq.{drop-cons, drop-drop, take-take, getD-take, length-take-le}
 use Rattle.rules.specs.Lists.{All}
+use Rattle.rules.specs.RoomAndSoundLedger.{longestName}
 use Rattle.numbers.specs.LittleEndian.{littleNumber}
 use Rattle.names.specs.Names.{spelled}
 use Rattle.records.specs.declared.Place.{Place}
@@ -15,6 +16,7 @@ use Rattle.records.specs.Records.{sizesOf, placeOf, bookingOf}
 use Rattle.records.proofs.Rows.{row-front, table-length, table-at}
 use Rattle.room.specs.Contents.{contentsOf, baseOf, Sized, usedPlaces, liveBookings}
 use Rattle.rules.proofs.ByIndex.{any-default, all-read}
+use Rattle.records.specs.Layout.{placeStart, nameStart, placeSize, bookingSize, headSize, nameBytesOffset, nameOffset}
 
 -- ── entries in use ─────────────────────────────────────────────────────────────────────────────
 
@@ -31,31 +33,31 @@ module _ {A : Type 0} (read : List ℕ → A) (k b n m : ℕ) (xs : List ℕ) (w
 module _ (xs : List ℕ) (s : Sized xs) where
   pub used-places : length (usedPlaces (contentsOf xs)) ≡ sizesOf xs .used
   unfolding contentsOf
-  used-places = used-length placeOf 66 56 (sizesOf xs .names) (sizesOf xs .used) xs (s .used)
+  used-places = used-length placeOf placeSize headSize (sizesOf xs .names) (sizesOf xs .used) xs (s .used)
 
   pub live-bookings : length (liveBookings (contentsOf xs)) ≡ sizesOf xs .live
   unfolding contentsOf
-  live-bookings = used-length bookingOf 18 (baseOf (sizesOf xs .names)) (sizesOf xs .reservations) (sizesOf xs .live) xs (s .live)
+  live-bookings = used-length bookingOf bookingSize (baseOf (sizesOf xs .names)) (sizesOf xs .reservations) (sizesOf xs .live) xs (s .live)
 
   -- what `load_place` gives of a place in use
-  pub loaded-place : (i : ℕ) (d : Place) → i < sizesOf xs .used → placeOf (row 66 (56 + 66 * i) xs) ≡ getD (usedPlaces (contentsOf xs)) i d
+  pub loaded-place : (i : ℕ) (d : Place) → i < sizesOf xs .used → placeOf (row placeSize (placeStart i) xs) ≡ getD (usedPlaces (contentsOf xs)) i d
   unfolding contentsOf
-  loaded-place = used-at placeOf 66 56 (sizesOf xs .names) (sizesOf xs .used) xs (s .used)
+  loaded-place = used-at placeOf placeSize headSize (sizesOf xs .names) (sizesOf xs .used) xs (s .used)
 
   -- what `load_booking` gives of a live booking
-  pub loaded-booking : (i : ℕ) (d : Booking) → i < sizesOf xs .live → bookingOf (row 18 (baseOf (sizesOf xs .names) + 18 * i) xs) ≡ getD (liveBookings (contentsOf xs)) i d
+  pub loaded-booking : (i : ℕ) (d : Booking) → i < sizesOf xs .live → bookingOf (row bookingSize (baseOf (sizesOf xs .names) + bookingSize * i) xs) ≡ getD (liveBookings (contentsOf xs)) i d
   unfolding contentsOf
-  loaded-booking = used-at bookingOf 18 (baseOf (sizesOf xs .names)) (sizesOf xs .reservations) (sizesOf xs .live) xs (s .live)
+  loaded-booking = used-at bookingOf bookingSize (baseOf (sizesOf xs .names)) (sizesOf xs .reservations) (sizesOf xs .live) xs (s .live)
 
   -- what `name_at` gives of a place in use
-  pub loaded-name : (i : ℕ) (d : Place) → i < sizesOf xs .used → spelled (placeOf (row 66 (56 + 66 * i) xs) .name) ≡ spelled (getD (usedPlaces (contentsOf xs)) i d .name)
+  pub loaded-name : (i : ℕ) (d : Place) → i < sizesOf xs .used → spelled (placeOf (row placeSize (placeStart i) xs) .name) ≡ spelled (getD (usedPlaces (contentsOf xs)) i d .name)
   loaded-name i d h = ap (λ p. spelled (p .name)) (loaded-place i d h)
 
   -- what `name_at` asks of a place in use
-  pub name-in-room : (i : ℕ) → All (λ p. p .name .length ≤ 24) (usedPlaces (contentsOf xs)) → i < sizesOf xs .used
-      → (56 + 66 * i + 66 ≤ length xs) × (placeOf (row 66 (56 + 66 * i) xs) .name .length ≤ 24)
+  pub name-in-room : (i : ℕ) → All (λ p. p .name .length ≤ longestName) (usedPlaces (contentsOf xs)) → i < sizesOf xs .used
+      → (placeStart i + placeSize ≤ length xs) × (placeOf (row placeSize (placeStart i) xs) .name .length ≤ longestName)
   name-in-room i short h =
-      let at : getD (usedPlaces (contentsOf xs)) i (placeOf []) .name .length ≤ 24 = all-read (λ p. p .name .length ≤ 24) (placeOf []) (usedPlaces (contentsOf xs)) i short (omega (arith, used-places)) in
+      let at : getD (usedPlaces (contentsOf xs)) i (placeOf []) .name .length ≤ longestName = all-read (λ p. p .name .length ≤ longestName) (placeOf []) (usedPlaces (contentsOf xs)) i short (omega (arith, used-places)) in
       (omega (arith, s), omega (arith, ap (λ p. p .name .length) (loaded-place i (placeOf []) h)))
 
 -- ── a name where it stands ─────────────────────────────────────────────────────────────────────
@@ -69,17 +71,17 @@ one-byte : (at : ℕ) (xs : List ℕ) → at < length xs → littleNumber (row 1
 unfolding littleNumber
 one-byte at xs h = ap (λ w. littleNumber (take 1 w)) (drop-cons xs at 0 h) ∙ (omega arith)
 
-module _ (i : ℕ) (xs : List ℕ) (within : 56 + 66 * i + 66 ≤ length xs) where
-  pub name-length : placeOf (row 66 (56 + 66 * i) xs) .name .length ≡ getD xs (97 + 66 * i) 0
+module _ (i : ℕ) (xs : List ℕ) (within : placeStart i + placeSize ≤ length xs) where
+  pub name-length : placeOf (row placeSize (placeStart i) xs) .name .length ≡ getD xs (nameStart i) 0
   name-length =
-      let e : 56 + 66 * i + 41 ≡ 97 + 66 * i = omega arith in
-      ap littleNumber (row-within 1 41 66 (56 + 66 * i) xs (omega arith) ∙ ap (λ at. row 1 at xs) e) ∙ one-byte (97 + 66 * i) xs (omega arith)
+      let e : placeStart i + nameOffset ≡ nameStart i = omega arith in
+      ap littleNumber (row-within 1 nameOffset placeSize (placeStart i) xs (omega arith) ∙ ap (λ at. row 1 at xs) e) ∙ one-byte (nameStart i) xs (omega arith)
 
-  pub name-spelled : placeOf (row 66 (56 + 66 * i) xs) .name .length ≤ 24
-      → spelled (placeOf (row 66 (56 + 66 * i) xs) .name) ≡ row (getD xs (97 + 66 * i) 0) (97 + 66 * i + 1) xs
+  pub name-spelled : placeOf (row placeSize (placeStart i) xs) .name .length ≤ longestName
+      → spelled (placeOf (row placeSize (placeStart i) xs) .name) ≡ row (getD xs (nameStart i) 0) (nameStart i + 1) xs
   name-spelled h =
-      let n : ℕ = getD xs (97 + 66 * i) 0 in
-      let e : 56 + 66 * i + 42 ≡ 97 + 66 * i + 1 = omega arith in
-      ap (λ m. take m (row 24 42 (row 66 (56 + 66 * i) xs))) name-length
-      ∙ ap (take n) (row-within 24 42 66 (56 + 66 * i) xs (omega arith) ∙ ap (λ at. row 24 at xs) e)
-      ∙ take-take n 24 (drop (97 + 66 * i + 1) xs) (omega (arith, name-length))
+      let n : ℕ = getD xs (nameStart i) 0 in
+      let e : placeStart i + nameBytesOffset ≡ nameStart i + 1 = omega arith in
+      ap (λ m. take m (row longestName nameBytesOffset (row placeSize (placeStart i) xs))) name-length
+      ∙ ap (take n) (row-within longestName nameBytesOffset placeSize (placeStart i) xs (omega arith) ∙ ap (λ at. row longestName at xs) e)
+      ∙ take-take n longestName (drop (nameStart i + 1) xs) (omega (arith, name-length))

@@ -6,7 +6,7 @@ use native.Mathlib.Omega.{arith}
 use lib.ListN.{length, length-map}
 use lib.Seq.{take-at}
 use Rattle.rules.specs.Lists.{All, Pairwise}
-use Rattle.rules.specs.RoomAndSoundLedger.{IsName, Ledger}
+use Rattle.rules.specs.RoomAndSoundLedger.{IsName, Ledger, longestName}
 use Rattle.rules.proofs.Lists.{all-map}
 use Rattle.rules.proofs.Keys.{all-images, pairwise-images}
 use Rattle.records.specs.Records.{headOf, sizesOf}
@@ -45,11 +45,11 @@ module _ (xs : List ℕ) (L : Ledger) (room : IsRoom xs L) where
         live = omega (arith, sound .reservations-fit);
       }
 
-  pub names-short : All (λ p. p .name .length ≤ 24) (usedPlaces (contentsOf xs))
+  pub names-short : All (λ p. p .name .length ≤ longestName) (usedPlaces (contentsOf xs))
   unfolding placeRecord
   names-short =
       rw places-are
-      (all-images placeRecord (λ p. p .name .length ≤ 24) (L .places) (all-map (λ p. IsName (p .name)) (λ p. length (p .name) ≤ 24) (λ p h. h .fits) (L .places) (room .sound .are-names)))
+      (all-images placeRecord (λ p. p .name .length ≤ longestName) (L .places) (all-map (λ p. IsName (p .name)) (λ p. length (p .name) ≤ longestName) (λ p h. h .fits) (L .places) (room .sound .are-names)))
 
   pub ids-ascend : Pairwise (λ b c. b .id < c .id) (liveBookings (contentsOf xs))
   ids-ascend = rw bookings-are (pairwise-images (bookingRecord (L .places)) (λ b c. b .id < c .id) (L .bookings) (room .sound .ids-ascend))

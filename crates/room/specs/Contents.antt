@@ -5,8 +5,9 @@ use mathlib.Core.List.{List, [], _∷_, _++_, map}
 use Prim.Native.Nat.{ℕ, suc, pred, _+_, _*_, _≤_, Ordering, Ordering·lt, Ordering·eq, Ordering·gt}
 use lib.Dec.{leb, ltb, eqb}
 use lib.ListN.{length, take, drop, set}
-use Rattle.rules.specs.RoomAndSoundLedger.{Name, order, same}
+use Rattle.rules.specs.RoomAndSoundLedger.{Name, order, same, mostNames, mostReservations}
 use Rattle.names.specs.Names.{spelled, stored}
+use Rattle.records.specs.Layout.{placeStart, bookingSize}
 use Rattle.records.specs.Records.{sizesOf, headOf, places, bookings}
 use Rattle.records.specs.declared.Place.{Place}
 use Rattle.records.specs.declared.Booking.{Booking}
@@ -26,18 +27,18 @@ contents s h ps bs = record { sizes = s; head = h; places = ps; bookings = bs }
 
 -- where the bookings start
 abbrev pub baseOf : (t : ℕ) → ℕ
-baseOf t = 56 + 66 * t
+baseOf t = placeStart t
 
 abbrev pub roomSize : (t r : ℕ) → ℕ
-roomSize t r = baseOf t + 18 * r
+roomSize t r = baseOf t + bookingSize * r
 
 unfoldable pub contentsOf : List ℕ → Contents
 contentsOf xs = let s : Sizes = sizesOf xs in contents s (headOf xs) (places (s .names) xs) (bookings (baseOf (s .names)) (s .reservations) xs)
 
 -- a room of the size that its sizes ask for, in which no more is in use than there is room for
 pub record Sized (xs : List ℕ) : Type 0 where
-  pub names : sizesOf xs .names ≤ 256
-  pub reservations : sizesOf xs .reservations ≤ 1024
+  pub names : sizesOf xs .names ≤ mostNames
+  pub reservations : sizesOf xs .reservations ≤ mostReservations
   pub size : length xs ≡ roomSize (sizesOf xs .names) (sizesOf xs .reservations)
   pub used : sizesOf xs .used ≤ sizesOf xs .names
   pub live : sizesOf xs .live ≤ sizesOf xs .reservations

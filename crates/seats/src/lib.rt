@@ -8,7 +8,7 @@ ghost use mathlib.Core.Bool.{true, false};
 ghost use mathlib.Core.Option.{none};
 ghost use Prim.Native.Nat.{_≤_, _<_};
 ghost use lib.ListN.{length};
-ghost use Rattle.rules.specs.RoomAndSoundLedger.{isVacant, holdsPlace, seatIn};
+ghost use Rattle.rules.specs.RoomAndSoundLedger.{isVacant, holdsPlace, seatIn, longestName};
 ghost use Rattle.moves.specs.Moves.{meaning, SeatSound};
 ghost use Rattle.room.specs.Contents.{contentsOf, Sized, usedPlaces, placeOfName};
 ghost use Rattle.room.specs.Room.{SoundRoom, OfRoom};
@@ -75,7 +75,7 @@ fn is_vacant(seat: Seat) -> bool
 
 // "20 when the name has no place and T are held"
 fn open_place(room: &mut [u8], part: &[u8], seat: Seat) -> Written
-    requires { ⌜ SoundRoom (now room) × (length (now part) ≤ 24) × SeatSound seat × (isVacant (meaning seat) ≡ false) × (OfRoom (now room) (λ L. holdsPlace (now part) (L .places) ≡ false)) ⌝ }
+    requires { ⌜ SoundRoom (now room) × (length (now part) ≤ longestName) × SeatSound seat × (isVacant (meaning seat) ≡ false) × (OfRoom (now room) (λ L. holdsPlace (now part) (L .places) ≡ false)) ⌝ }
     ensures { λ r. ⌜ OfRoom (now (room .entry)) (λ L. WritesSeat (now (part .entry)) seat L (now (room .entry)) (now (room .exit)) r) ⌝ }
 {
     let sizes = records::load_sizes(room);
@@ -99,7 +99,7 @@ fn open_place(room: &mut [u8], part: &[u8], seat: Seat) -> Written
 
 // A vacant seat frees the name's place; another is written where the name stands, or put in.
 pub fn write_seat(room: &mut [u8], part: &[u8], found: Found, seat: Seat) -> Written
-    requires { ⌜ SoundRoom (now room) × (length (now part) ≤ 24) × SeatSound seat × (found ≡ placeOfName (now part) (usedPlaces (contentsOf (now room)))) × (OfRoom (now room) (λ L. isVacant (meaning seat) ≡ true → seatIn (now part) (L .places) .account ≡ none)) ⌝ }
+    requires { ⌜ SoundRoom (now room) × (length (now part) ≤ longestName) × SeatSound seat × (found ≡ placeOfName (now part) (usedPlaces (contentsOf (now room)))) × (OfRoom (now room) (λ L. isVacant (meaning seat) ≡ true → seatIn (now part) (L .places) .account ≡ none)) ⌝ }
     ensures { λ r. ⌜ OfRoom (now (room .entry)) (λ L. WritesSeat (now (part .entry)) seat L (now (room .entry)) (now (room .exit)) r) ⌝ }
 {
     let Found::At(i) = found else {

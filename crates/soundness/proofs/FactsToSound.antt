@@ -11,12 +11,13 @@ use borrow.Author.Tests.{eq-eqb}
 use lib.ListN.{length, getD, take, drop, replicate, length-map, length-take, take-append-drop}
 use lib.Seq.{length-take-le}
 use Rattle.rules.specs.Lists.{sum, All, Pairwise}
-use Rattle.rules.specs.RoomAndSoundLedger.{M, IsByte, IsName, Account, Place as RulesPlace, Booking as RulesBooking, isVacant, seatIn, hasAccount, committedAt, committedTotal, InRange, Before, AddsUp, Reserves, Sound}
+use Rattle.rules.specs.RoomAndSoundLedger.{M, IsByte, IsName, Account, Place as RulesPlace, Booking as RulesBooking, isVacant, seatIn, hasAccount, committedAt, committedTotal, InRange, Before, AddsUp, Reserves, Sound, mostNames, mostReservations}
 use Rattle.rules.proofs.Lists.{all-map, all-both}
 use Rattle.rules.proofs.Keys.{all-images, pairwise-images}
 use Rattle.rules.proofs.Places.{all-found}
 use Rattle.numbers.proofs.Bytes.{all-take}
 use Rattle.names.specs.Names.{spelled}
+use Rattle.records.specs.Layout.{placeSize, bookingSize, headSize}
 use Rattle.records.specs.Records.{sizesOf, placeOf, bookingOf}
 use Rattle.records.proofs.Rows.{table-length}
 use Rattle.records.specs.declared.Place.{Place}
@@ -139,7 +140,7 @@ module _ (c : Contents) (shaped : Shaped c) (facts : TablesSound c) where
   committed-total = sum-images placeIn committedAt (λ p. p .committed) records
       (all-map PlaceSound (λ p. committedAt (placeIn p) ≡ p .committed) (λ p s. sym (record-committed p s)) records (facts .places .each))
 
-  decoded-sound : InRange 1 256 (c .sizes .names) → InRange 1 1024 (c .sizes .reservations) → HeadSound (c .head) → All NameOfBytes (c .places) → Sound (ledgerIn c)
+  decoded-sound : InRange 1 mostNames (c .sizes .names) → InRange 1 mostReservations (c .sizes .reservations) → HeadSound (c .head) → All NameOfBytes (c .places) → Sound (ledgerIn c)
   unfolding ledgerIn
   decoded-sound names reservations head bytes = record {
     names-in-range = names;
@@ -169,7 +170,7 @@ facts-sound xs bytes facts =
     let c : Contents = contentsOf xs in
     let t : ℕ = sizesOf xs .names in
     let r : ℕ = sizesOf xs .reservations in
-    let shaped : Shaped c = record { places = table-length placeOf 66 56 t xs; bookings = table-length bookingOf 18 (baseOf t) r xs; used = facts .sizes .used; live = facts .sizes .live } in
+    let shaped : Shaped c = record { places = table-length placeOf placeSize headSize t xs; bookings = table-length bookingOf bookingSize (baseOf t) r xs; used = facts .sizes .used; live = facts .sizes .live } in
     record {
       ledger = ledgerIn c;
       is-room = record {

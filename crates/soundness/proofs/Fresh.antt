@@ -8,8 +8,9 @@ use native.Mathlib.Omega.{arith}
 use borrow.Author.Tests.{leb-true, le-leb}
 use lib.Dec.{leb}
 use lib.ListN.{length, replicate, length-replicate}
-use Rattle.rules.specs.RoomAndSoundLedger.{Ledger, InRange, isInRange, fresh, made}
+use Rattle.rules.specs.RoomAndSoundLedger.{Ledger, InRange, isInRange, fresh, made, mostNames, mostReservations}
 use Rattle.rules.proofs.Tests.{by-test, and-true, none-some}
+use Rattle.records.specs.Layout.{ledgerHeadOffset, ledgerHeadSize, countsOffset, capacityOffset, pairSize, placeSize, bookingSize, headSize}
 use Rattle.records.specs.Rows.{put}
 use Rattle.records.specs.Records.{placeOf, placeBytes, bookingOf, bookingBytes, pairBytes, headBytes, SizesFit, HeadFits, places, bookings}
 use Rattle.records.specs.declared.Head.{Head}
@@ -31,16 +32,16 @@ is-in-range : (low high n : ℕ) → InRange low high n → isInRange low high n
 is-in-range low high n h = ap₂ _&&_ (le-leb low n (h .0)) (le-leb n high (h .1))
 
 module _ (t r : ℕ) where
-  pub made-some : (L : Ledger) → made t r ≡ some L → InRange 1 256 t × InRange 1 1024 r × (fresh t r ≡ L)
+  pub made-some : (L : Ledger) → made t r ≡ some L → InRange 1 mostNames t × InRange 1 mostReservations r × (fresh t r ≡ L)
   unfolding made
   made-some L =
-      by-test (λ o. o ≡ some L → InRange 1 256 t × InRange 1 1024 r × (fresh t r ≡ L)) (isInRange 1 256 t && isInRange 1 1024 r)
-      (λ e h. let (a, b) = and-true (isInRange 1 256 t) (isInRange 1 1024 r) e in let q : fresh t r ≡ L = cc in (in-range 1 256 t a, in-range 1 1024 r b, q))
+      by-test (λ o. o ≡ some L → InRange 1 mostNames t × InRange 1 mostReservations r × (fresh t r ≡ L)) (isInRange 1 mostNames t && isInRange 1 mostReservations r)
+      (λ e h. let (a, b) = and-true (isInRange 1 mostNames t) (isInRange 1 mostReservations r) e in let q : fresh t r ≡ L = cc in (in-range 1 mostNames t a, in-range 1 mostReservations r b, q))
       (λ e h. none-some h)
 
-  pub made-fresh : InRange 1 256 t → InRange 1 1024 r → made t r ≡ some (fresh t r)
+  pub made-fresh : InRange 1 mostNames t → InRange 1 mostReservations r → made t r ≡ some (fresh t r)
   unfolding made
-  made-fresh h k = rw (is-in-range 1 256 t h, is-in-range 1 1024 r k)
+  made-fresh h k = rw (is-in-range 1 mostNames t h, is-in-range 1 mostReservations r k)
 
 -- ── the room of a fresh ledger ─────────────────────────────────────────────────────────────────
 
@@ -51,11 +52,11 @@ abbrev pub freshHead : Head
 freshHead = record { «next_id» = 1; «last_version» = 0; baseline = 0 }
 
 abbrev pub sizesPut : Sizes → List ℕ → List ℕ
-sizesPut s xs = put 40 16 (put 0 16 xs (pairBytes (s .names) (s .reservations))) (pairBytes (s .used) (s .live))
+sizesPut s xs = put countsOffset pairSize (put capacityOffset pairSize xs (pairBytes (s .names) (s .reservations))) (pairBytes (s .used) (s .live))
 
-sizes-put-length : (s : Sizes) (xs : List ℕ) → 56 ≤ length xs → length (sizesPut s xs) ≡ length xs
+sizes-put-length : (s : Sizes) (xs : List ℕ) → headSize ≤ length xs → length (sizesPut s xs) ≡ length xs
 sizes-put-length s xs h =
-    let ys = put 0 16 xs (pairBytes (s .names) (s .reservations)) in
+    let ys = put capacityOffset pairSize xs (pairBytes (s .names) (s .reservations)) in
     let e : length ys ≡ length xs = put-length 0 16 xs (pairBytes (s .names) (s .reservations)) (omega arith) (pair-length (s .names) (s .reservations)) in
     put-length 40 16 ys (pairBytes (s .used) (s .live)) (omega arith) (pair-length (s .used) (s .live)) ∙ e
 
@@ -64,17 +65,17 @@ unfolding filled
 filled-none n x = let e : n ≡ n - 0 = omega arith in ap (λ m. replicate m x) e
 
 pub fresh-room : (t r n : ℕ) → n ≡ roomSize t r → SizesFit (freshSizes t r) → HeadFits freshHead
-    → contentsOf (put 16 24 (sizesPut (freshSizes t r) (zeros n)) (headBytes freshHead)) ≡ contentsIn (fresh t r)
+    → contentsOf (put ledgerHeadOffset ledgerHeadSize (sizesPut (freshSizes t r) (zeros n)) (headBytes freshHead)) ≡ contentsIn (fresh t r)
 unfolding contentsIn fresh
 fresh-room t r n e sizes-fit head-fits =
     let base = baseOf t in
-    let long : base + 18 * r ≤ length (zeros n) = omega (arith, length-replicate {A = ℕ} n 0) in
+    let long : base + bookingSize * r ≤ length (zeros n) = omega (arith, length-replicate {A = ℕ} n 0) in
     let l = sizes-put-length (freshSizes t r) (zeros n) (omega arith) in
     let a = sizes-stored t base r (zeros n) (omega arith) long (freshSizes t r) sizes-fit in
     let b = head-stored t base r (sizesPut (freshSizes t r) (zeros n)) (omega arith) (omega arith) freshHead head-fits in
     let no-places : places t (zeros n) ≡ replicate t emptyPlace =
-    zeros-empty placeOf placeBytes 66 bytes-of-place 56 t (zeros n) (row-zeros (66 * t) 56 n (omega arith)) ∙ ap (replicate t) empty-place in
+    zeros-empty placeOf placeBytes placeSize bytes-of-place headSize t (zeros n) (row-zeros (placeSize * t) headSize n (omega arith)) ∙ ap (replicate t) empty-place in
     let no-bookings : bookings base r (zeros n) ≡ replicate r emptyBooking =
-    zeros-empty bookingOf bookingBytes 18 bytes-of-booking base r (zeros n) (row-zeros (18 * r) base n (omega arith)) ∙ ap (replicate r) empty-booking in
-    sym (contents-with (freshSizes t r) freshHead (put 16 24 (sizesPut (freshSizes t r) (zeros n)) (headBytes freshHead)) (sym (b .sizes ∙ a .sizes)) (sym (b .head)))
+    zeros-empty bookingOf bookingBytes bookingSize bytes-of-booking base r (zeros n) (row-zeros (bookingSize * r) base n (omega arith)) ∙ ap (replicate r) empty-booking in
+    sym (contents-with (freshSizes t r) freshHead (put ledgerHeadOffset ledgerHeadSize (sizesPut (freshSizes t r) (zeros n)) (headBytes freshHead)) (sym (b .sizes ∙ a .sizes)) (sym (b .head)))
     ∙ ap₂ (contents (freshSizes t r) freshHead) (b .places ∙ a .places ∙ no-places ∙ filled-none t emptyPlace) (b .bookings ∙ a .bookings ∙ no-bookings ∙ filled-none r emptyBooking)

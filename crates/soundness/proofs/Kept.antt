@@ -4,7 +4,7 @@ use mathlib.Core.Bool.{false}
 use mathlib.Core.Option.{Option, none, some}
 use Prim.Native.Nat.{ℕ, _≤_}
 use lib.ListN.{length}
-use Rattle.rules.specs.RoomAndSoundLedger.{M, Account, Seat as RulesSeat, seat, Place as RulesPlace, isVacant, committedOf, AddsUp}
+use Rattle.rules.specs.RoomAndSoundLedger.{M, Account, Seat as RulesSeat, seat, Place as RulesPlace, isVacant, committedOf, AddsUp, longestName}
 use Rattle.names.specs.Names.{spelled, stored}
 use Rattle.names.proofs.Storing.{stored-spelled, stored-is-stored}
 use Rattle.moves.specs.Moves.{accountOf, meaning, kept, keptSeat}
@@ -56,7 +56,7 @@ module _ (p : RulesPlace) where
   unfolding placeRecord keptSeat
   meaning-kept = kept-meaning (p .seat .account) (p .seat .limit)
 
-  pub place-sound : length (p .name) ≤ 24 → AddsUp (p .seat .account) → p .seat .limit ≤ M → isVacant (p .seat) ≡ false → PlaceSound (placeRecord p)
+  pub place-sound : length (p .name) ≤ longestName → AddsUp (p .seat .account) → p .seat .limit ≤ M → isVacant (p .seat) ≡ false → PlaceSound (placeRecord p)
   unfolding placeRecord
   place-sound fits adds limit held = record {
     name = stored-is-stored (p .name) fits;

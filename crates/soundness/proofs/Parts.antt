@@ -9,6 +9,7 @@ use Rattle.rules.specs.Lists.{sum, All}
 use Rattle.rules.specs.RoomAndSoundLedger.{IsByte}
 use Rattle.rules.proofs.Lists.{all-map}
 use Rattle.numbers.specs.LittleEndian.{littleNumber}
+use Rattle.records.specs.Layout.{placeStart, placeSize, bookingSize, headSize}
 use Rattle.records.specs.Rows.{row}
 use Rattle.records.specs.Records.{placeOf, placeBytes, bookingOf, bookingBytes, sizesOf, headOf, places, bookings}
 use Rattle.records.specs.declared.Head.{Head}
@@ -28,11 +29,11 @@ pub contents-with : (s : Sizes) (h : Head) (xs : List ℕ) → s ≡ sizesOf xs 
 unfolding contentsOf
 contents-with s h xs e f = ap₂ (λ s h. contentsWith s h xs) e f
 
-pub empty-place : placeOf (replicate 66 0) ≡ emptyPlace
+pub empty-place : placeOf (replicate placeSize 0) ≡ emptyPlace
 unfolding littleNumber
 empty-place = refl
 
-pub empty-booking : bookingOf (replicate 18 0) ≡ emptyBooking
+pub empty-booking : bookingOf (replicate bookingSize 0) ≡ emptyBooking
 unfolding littleNumber
 empty-booking = refl
 
@@ -45,21 +46,21 @@ module _ (s : Sizes) (h : Head) (xs : List ℕ) (bytes : All IsByte xs) (sized :
   base = baseOf (s .names)
 
   used-places : take (s .used) (places (s .names) xs) ≡ places (s .used) xs
-  used-places = table-take placeOf 66 56 xs (s .used) (s .names) (sized .used)
+  used-places = table-take placeOf placeSize headSize xs (s .used) (s .names) (sized .used)
 
   live-bookings : take (s .live) (bookings base (s .reservations) xs) ≡ bookings base (s .live) xs
-  live-bookings = table-take bookingOf 18 base xs (s .live) (s .reservations) (sized .live)
+  live-bookings = table-take bookingOf bookingSize base xs (s .live) (s .reservations) (sized .live)
 
   abbrev unusedPlaces : List ℕ
-  unusedPlaces = row (base - (56 + 66 * s .used)) (56 + 66 * s .used) xs
+  unusedPlaces = row (base - placeStart (s .used)) (placeStart (s .used)) xs
 
   abbrev unusedBookings : List ℕ
-  unusedBookings = row (length xs - (base + 18 * s .live)) (base + 18 * s .live) xs
+  unusedBookings = row (length xs - (base + bookingSize * s .live)) (base + bookingSize * s .live) xs
 
-  width-of-places : base - (56 + 66 * s .used) ≡ 66 * (s .names - s .used)
+  width-of-places : base - placeStart (s .used) ≡ placeSize * (s .names - s .used)
   width-of-places = omega (arith, sized .used)
 
-  width-of-bookings : length xs - (base + 18 * s .live) ≡ 18 * (s .reservations - s .live)
+  width-of-bookings : length xs - (base + bookingSize * s .live) ≡ bookingSize * (s .reservations - s .live)
   width-of-bookings = omega (arith, sized .size, sized .live)
 
   module _ (tables : TablesSound (contentsWith s h xs)) where
@@ -68,13 +69,13 @@ module _ (s : Sizes) (h : Head) (xs : List ℕ) (bytes : All IsByte xs) (sized :
 
     pub unused-places-part : ZeroBelow (length unusedPlaces) unusedPlaces
     unused-places-part =
-        subst (λ n. ZeroBelow (length (row n (56 + 66 * s .used) xs)) (row n (56 + 66 * s .used) xs)) (sym width-of-places)
-        (clear placeOf placeBytes 66 bytes-of-place 56 (s .used) (s .names) xs bytes (sized .used) (omega (arith, sized .size)) (tables .unused-places ∙ ap (replicate (s .names - s .used)) (sym empty-place)) _)
+        subst (λ n. ZeroBelow (length (row n (placeStart (s .used)) xs)) (row n (placeStart (s .used)) xs)) (sym width-of-places)
+        (clear placeOf placeBytes placeSize bytes-of-place headSize (s .used) (s .names) xs bytes (sized .used) (omega (arith, sized .size)) (tables .unused-places ∙ ap (replicate (s .names - s .used)) (sym empty-place)) _)
 
     pub unused-bookings-part : ZeroBelow (length unusedBookings) unusedBookings
     unused-bookings-part =
-        subst (λ n. ZeroBelow (length (row n (base + 18 * s .live) xs)) (row n (base + 18 * s .live) xs)) (sym width-of-bookings)
-        (clear bookingOf bookingBytes 18 bytes-of-booking base (s .live) (s .reservations) xs bytes (sized .live) (omega (arith, sized .size)) (tables .unused-bookings ∙ ap (replicate (s .reservations - s .live)) (sym empty-booking)) _)
+        subst (λ n. ZeroBelow (length (row n (base + bookingSize * s .live) xs)) (row n (base + bookingSize * s .live) xs)) (sym width-of-bookings)
+        (clear bookingOf bookingBytes bookingSize bytes-of-booking base (s .live) (s .reservations) xs bytes (sized .live) (omega (arith, sized .size)) (tables .unused-bookings ∙ ap (replicate (s .reservations - s .live)) (sym empty-booking)) _)
 
     pub booked-part : (reserved : List ℕ) → Noted (s .used) xs reserved → Booked 0 (h .«next_id») (s .used) reserved (bookings base (s .live) xs)
     booked-part reserved noted =
@@ -92,11 +93,11 @@ module _ (s : Sizes) (h : Head) (xs : List ℕ) (bytes : All IsByte xs) (sized :
       record {
         places = subst (PlacesSound (h .baseline)) (sym used-places) sound;
         unused-places =
-            cleared placeOf placeBytes 66 bytes-of-place 56 (s .used) (s .names) xs bytes (sized .used) (omega (arith, sized .size)) (subst (λ n. ZeroBelow (length (row n (56 + 66 * s .used) xs)) (row n (56 + 66 * s .used) xs)) width-of-places zero)
+            cleared placeOf placeBytes placeSize bytes-of-place headSize (s .used) (s .names) xs bytes (sized .used) (omega (arith, sized .size)) (subst (λ n. ZeroBelow (length (row n (placeStart (s .used)) xs)) (row n (placeStart (s .used)) xs)) width-of-places zero)
             ∙ ap (replicate (s .names - s .used)) empty-place;
         bookings = subst (BookingsSound (h .«next_id») (s .used)) (sym live-bookings) (booked .sound);
         reserved = λ i l. ap (λ ps. getD ps i emptyPlace .reserved) used-places ∙ sym (noted-at (s .used) xs reserved noted i l) ∙ booked .sums i l ∙ ap (sum (shareOf i)) (sym live-bookings);
         unused-bookings =
-            cleared bookingOf bookingBytes 18 bytes-of-booking base (s .live) (s .reservations) xs bytes (sized .live) (omega (arith, sized .size)) (subst (λ n. ZeroBelow (length (row n (base + 18 * s .live) xs)) (row n (base + 18 * s .live) xs)) width-of-bookings zero′)
+            cleared bookingOf bookingBytes bookingSize bytes-of-booking base (s .live) (s .reservations) xs bytes (sized .live) (omega (arith, sized .size)) (subst (λ n. ZeroBelow (length (row n (base + bookingSize * s .live) xs)) (row n (base + bookingSize * s .live) xs)) width-of-bookings zero′)
             ∙ ap (replicate (s .reservations - s .live)) empty-booking;
       }

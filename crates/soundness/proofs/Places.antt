@@ -10,6 +10,7 @@ use Rattle.rules.specs.Lists.{sum, All, Pairwise}
 use Rattle.rules.proofs.Lists.{all-map, all-parts, all-more, pairwise-more, sum-more}
 use Rattle.rules.proofs.Names.{order-trans}
 use Rattle.names.specs.Names.{spelled}
+use Rattle.records.specs.Layout.{placeSize, headSize}
 use Rattle.records.specs.Records.{placeOf, places}
 use Rattle.soundness.specs.Facts.{NameBefore, PlaceSound, PlacesSound}
 use Rattle.soundness.specs.Steps.{placeAt, NameFollows, Noted}
@@ -34,7 +35,7 @@ committedBy i xs = sum (λ p. p .committed) (places i xs)
 
 module _ (xs : List ℕ) where
   pub place-more : (i : ℕ) → places (i + 1) xs ≡ places i xs ++ placeAt i xs ∷ []
-  place-more i = table-more placeOf 66 56 xs i
+  place-more i = table-more placeOf placeSize headSize xs i
 
   pub sound-more : (i : ℕ) → All PlaceSound (places i xs) → PlaceSound (placeAt i xs) → All PlaceSound (places (i + 1) xs)
   sound-more i h p = subst (All PlaceSound) (sym (place-more i)) (all-more PlaceSound (places i xs) (placeAt i xs) h p)
@@ -59,7 +60,7 @@ module _ (xs : List ℕ) where
   -- what sound places say of the one at i, and of its name
   module _ (base used i : ℕ) (sound : PlacesSound base (places used xs)) (h : i < used) where
     pub place-sound : PlaceSound (placeAt i xs)
-    place-sound = table-all placeOf 66 56 xs PlaceSound used i (sound .each) h
+    place-sound = table-all placeOf placeSize headSize xs PlaceSound used i (sound .each) h
 
     pub name-follows : NameFollows i xs
-    name-follows l = table-pairs placeOf 66 56 xs NameBefore used (i - 1) i (sound .ascend) (omega arith) h
+    name-follows l = table-pairs placeOf placeSize headSize xs NameBefore used (i - 1) i (sound .ascend) (omega arith) h

@@ -7,10 +7,11 @@ use Prim.Native.Nat.{ℕ, _-_, _≤_, _<_, Ordering·lt}
 use lib.Dec.{eqb}
 use lib.ListN.{length, getD, drop, replicate}
 use Rattle.rules.specs.Lists.{sum, All, Pairwise}
-use Rattle.rules.specs.RoomAndSoundLedger.{M, order, isVacant, InRange, hasTag, fenceOf}
+use Rattle.rules.specs.RoomAndSoundLedger.{M, order, isVacant, InRange, hasTag, fenceOf, mostNames, mostReservations}
 use Rattle.names.specs.Names.{spelled, IsStored}
 use Rattle.moves.specs.Moves.{meaning, SeatSound}
 use Rattle.moves.specs.declared.Seat.{Seat}
+use Rattle.records.specs.Layout.{headSize}
 use Rattle.records.specs.Records.{sizesOf, headOf}
 use Rattle.records.specs.declared.Place.{Place}
 use Rattle.records.specs.declared.Booking.{Booking}
@@ -24,8 +25,8 @@ pub record Decides (P : Type 0) (r : Bool) : Type 0 where
   pub fails : r ≡ false → P → ⊥
 
 pub record SizesSound (s : Sizes) (bytes : ℕ) : Type 0 where
-  pub names : InRange 1 256 (s .names)
-  pub reservations : InRange 1 1024 (s .reservations)
+  pub names : InRange 1 mostNames (s .names)
+  pub reservations : InRange 1 mostReservations (s .reservations)
   pub used : s .used ≤ s .names
   pub live : s .live ≤ s .reservations
   pub size : bytes ≡ roomSize (s .names) (s .reservations)
@@ -79,7 +80,7 @@ pub record TablesSound (c : Contents) : Type 0 where
   pub unused-bookings : drop (c .sizes .live) (c .bookings) ≡ replicate (c .sizes .reservations - c .sizes .live) emptyBooking
 
 pub record RoomFacts (xs : List ℕ) : Type 0 where
-  pub long : 56 ≤ length xs
+  pub long : headSize ≤ length xs
   pub sizes : SizesSound (sizesOf xs) (length xs)
   pub head : HeadSound (headOf xs)
   pub tables : TablesSound (contentsOf xs)

@@ -2,9 +2,10 @@
 use mathlib.Core.Path.{_≡_}
 use mathlib.Core.Bool.{Bool, true, false}
 use mathlib.Core.List.{List, map}
-use Prim.Native.Nat.{ℕ, _+_, _-_, _*_, _<_}
+use Prim.Native.Nat.{ℕ, _-_, _<_}
 use lib.ListN.{getD, take}
 use Rattle.rules.specs.Lists.{sum, All}
+use Rattle.records.specs.Layout.{placeStart, placeSize}
 use Rattle.records.specs.Rows.{row}
 use Rattle.records.specs.Records.{placeOf, places}
 use Rattle.records.specs.declared.Place.{Place}
@@ -21,7 +22,7 @@ abbrev pub ZeroBelow : (n : ℕ) → List ℕ → Type 0
 ZeroBelow n xs = (i : ℕ) → i < n → getD xs i 0 ≡ 0
 
 abbrev pub placeAt : (i : ℕ) → List ℕ → Place
-placeAt i xs = placeOf (row 66 (56 + 66 * i) xs)
+placeAt i xs = placeOf (row placeSize (placeStart i) xs)
 
 -- the name at i comes after the one before it, where there is one
 abbrev pub NameFollows : (i : ℕ) → List ℕ → Type 0

@@ -11,6 +11,7 @@ ghost use lib.ListN.{length, replicate};
 ghost use Rattle.rules.specs.RoomAndSoundLedger.{M, InRange, isVacant};
 ghost use Rattle.names.specs.Names.{IsStored};
 ghost use Rattle.moves.specs.Moves.{meaning, SeatSound};
+ghost use Rattle.records.specs.Layout.{placeStart, placeSize, bookingSize};
 ghost use Rattle.records.specs.Rows.{row};
 ghost use Rattle.records.specs.Records.{sizesOf, headOf, places, bookings};
 ghost use Rattle.room.specs.Contents.{contentsOf};
@@ -19,7 +20,12 @@ ghost use Rattle.soundness.specs.Facts.{Decides, SizesSound, VersionSoun
 ghost use Rattle.soundness.specs.Steps.{Leaves, ZeroBelow, placeAt, NameFollows, Noted, Follows, Booked};
 ghost use Rattle.soundness.specs.Making.{Makes};
 
-const M: u64 = 9223372036854775807;
+// The numbers of `rules`, of the type that the fields of a room have.
+const MOST_NAMES: u64 = rules::MOST_NAMES as u64;
+
+const MOST_RESERVATIONS: u64 = rules::MOST_RESERVATIONS as u64;
+
+const LONGEST_NAME: u64 = rules::LONGEST_NAME as u64;
 
 fn in_range(value: u64, low: u64, high: u64) -> bool
     ensures { λ r. ⌜ Decides (InRange low high value) r ⌝ }
@@ -34,10 +40,10 @@ fn in_range(value: u64, low: u64, high: u64) -> bool
 fn sizes_sound(sizes: Sizes, bytes: usize) -> bool
     ensures { λ r. ⌜ Decides (SizesSound sizes bytes) r ⌝ }
 {
-    if !in_range(sizes.names, 1, 256) {
+    if !in_range(sizes.names, 1, MOST_NAMES) {
         return false;
     }
-    if !in_range(sizes.reservations, 1, 1024) {
+    if !in_range(sizes.reservations, 1, MOST_RESERVATIONS) {
         return false;
     }
     if sizes.names < sizes.used {
@@ -46,7 +52,10 @@ fn sizes_sound(sizes: Sizes, bytes: usize) -> bool
     if sizes.reservations < sizes.live {
         return false;
     }
-    bytes == 56 + 66 * (sizes.names as usize) + 18 * (sizes.reservations as usize)
+    bytes
+        == records::HEAD_SIZE
+            + records::PLACE_SIZE * (sizes.names as usize)
+            + records::BOOKING_SIZE * (sizes.reservations as usize)
 }
 
 // "last version is 0 or has bit 63 set and the low 63 bits not zero"
@@ -66,10 +75,10 @@ fn version_sound(version: u64) -> bool
 fn head_sound(head: Head) -> bool
     ensures { λ r. ⌜ Decides (HeadSound head) r ⌝ }
 {
-    if !in_range(head.next_id, 1, M) {
+    if !in_range(head.next_id, 1, rules::M) {
         return false;
     }
-    if M < head.baseline {
+    if rules::M < head.baseline {
         return false;
     }
     version_sound(head.last_version)
@@ -79,7 +88,7 @@ fn head_sound(head: Head) -> bool
 fn adds_up(place: Place) -> bool
     ensures { λ r. ⌜ Decides ((place .remaining + place .reserved + place .committed ≡ place .initial) × (place .initial ≤ M)) r ⌝ }
 {
-    if M < place.initial {
+    if rules::M < place.initial {
         return false;
     }
     if place.initial < place.remaining {
@@ -96,7 +105,7 @@ fn adds_up(place: Place) -> bool
 fn amounts_sound(place: Place) -> bool
     ensures { λ r. ⌜ Decides (SeatSound (seatAt place) × (isVacant (meaning (seatAt place)) ≡ false)) r ⌝ }
 {
-    if M < place.limit {
+    if rules::M < place.limit {
         return false;
     }
     if !adds_up(place) {
@@ -123,7 +132,7 @@ fn less(number: u64, taken: u64) -> u64
 
 // One pass over the places: each is sound, names ascend, the committed total reaches the baseline; what each has reserved is noted.
 fn places_sound(room: &[u8], used: usize, baseline: u64, reserved: &mut [u64]) -> bool
-    requires within { ⌜ 56 + 66 * used ≤ length (now room) ⌝ }
+    requires within { ⌜ placeStart used ≤ length (now room) ⌝ }
     requires few { ⌜ used ≤ length (now reserved) ⌝ }
     ensures decides { λ r. ⌜ Decides (PlacesSound baseline (places used (now (room .entry)))) r ⌝ }
     ensures noted { λ r. ⌜ (r ≡ true → Noted used (now (room .entry)) (now (reserved .exit))) ⌝ }
@@ -150,20 +159,20 @@ fn places_sound(room: &[u8], used: usize, baseline: u64, reserved: &mut [u64]) -
 
 // The length of the name at i.
 fn name_length(room: &[u8], i: usize) -> u8
-    requires { ⌜ 56 + 66 * i + 66 ≤ length (now room) ⌝ }
+    requires { ⌜ placeStart i + placeSize ≤ length (now room) ⌝ }
     ensures { λ r. ⌜ r ≡ placeAt i (now (room .entry)) .name .length ⌝ }
 {
-    room[97 + 66 * i]
+    room[records::FIRST_NAME + records::PLACE_SIZE * i]
 }
 
 // Eight bytes of the name at i, where they stand in the room: a name has three such parts.
 fn name_part(room: &[u8], i: usize, part: usize) -> &[u8]
-    requires within { ⌜ 56 + 66 * i + 66 ≤ length (now room) ⌝ }
+    requires within { ⌜ placeStart i + placeSize ≤ length (now room) ⌝ }
     requires third { ⌜ part < 3 ⌝ }
     ensures stands { λ r. ⌜ now r ≡ row 8 (8 * part) (placeAt i (now (room .entry)) .name .bytes) ⌝ }
     ensures width { λ r. ⌜ length (now r) ≡ 8 ⌝ }
 {
-    let from = 98 + 66 * i + 8 * part;
+    let from = records::FIRST_NAME_BYTES + records::PLACE_SIZE * i + 8 * part;
     let end = from + 8;
     &room[from..end]
 }
@@ -180,11 +189,11 @@ fn is_clear(word: u64, from: u64) -> bool
 
 // "bytes past the length zero"
 fn name_sound(room: &[u8], i: usize) -> bool
-    requires { ⌜ 56 + 66 * i + 66 ≤ length (now room) ⌝ }
+    requires { ⌜ placeStart i + placeSize ≤ length (now room) ⌝ }
     ensures { λ r. ⌜ Decides (IsStored (placeAt i (now (room .entry)) .name)) r ⌝ }
 {
     let length = name_length(room, i) as u64;
-    if 24 < length {
+    if LONGEST_NAME < length {
         return false;
     }
     let mut part = 0;
@@ -201,7 +210,7 @@ fn name_sound(room: &[u8], i: usize) -> bool
 // The name at i comes after the one before it, if there is one. Eight bytes with the highest first are in the order of their numbers; where all
 // are the same, the bytes past the shorter name are zeros of the longer.
 fn ascends(room: &[u8], i: usize) -> bool
-    requires within { ⌜ 56 + 66 * i + 66 ≤ length (now room) ⌝ }
+    requires within { ⌜ placeStart i + placeSize ≤ length (now room) ⌝ }
     requires before { ⌜ (0 < i → IsStored (placeAt (i - 1) (now room) .name)) ⌝ }
     requires here { ⌜ IsStored (placeAt i (now room) .name) ⌝ }
     ensures { λ r. ⌜ Decides (NameFollows i (now (room .entry))) r ⌝ }
@@ -262,7 +271,7 @@ fn bookings_sound(
     next_id: u64,
     reserved: &mut [u64],
 ) -> bool
-    requires within { ⌜ base + 18 * sizes .live ≤ length (now room) ⌝ }
+    requires within { ⌜ base + bookingSize * sizes .live ≤ length (now room) ⌝ }
     requires few { ⌜ sizes .used ≤ length (now reserved) ⌝ }
     ensures { λ r. ⌜ Leaves (Booked 0 «next_id» (sizes .used) (now (reserved .entry)) (bookings base (sizes .live) (now (room .entry)))) (ZeroBelow (sizes .used) (now (reserved .exit))) r ⌝ }
 {
@@ -306,10 +315,10 @@ fn tables_sound(room: &[u8], sizes: Sizes, head: Head) -> bool
     ensures { λ r. ⌜ Decides (TablesSound (contentsOf (now (room .entry)))) r ⌝ }
 {
     let used = sizes.used as usize;
-    let base = 56 + 66 * (sizes.names as usize);
-    let unused_places = 56 + 66 * used;
-    let unused_bookings = base + 18 * (sizes.live as usize);
-    let mut reserved = [0u64; 256];
+    let base = records::HEAD_SIZE + records::PLACE_SIZE * (sizes.names as usize);
+    let unused_places = records::HEAD_SIZE + records::PLACE_SIZE * used;
+    let unused_bookings = base + records::BOOKING_SIZE * (sizes.live as usize);
+    let mut reserved = [0u64; rules::MOST_NAMES];
     if !places_sound(room, used, head.baseline, &mut reserved) {
         return false;
     }
@@ -329,7 +338,7 @@ fn tables_sound(room: &[u8], sizes: Sizes, head: Head) -> bool
 fn check(room: &[u8]) -> bool
     ensures { λ r. ⌜ Decides (RoomFacts (now (room .entry))) r ⌝ }
 {
-    if room.len() < 56 {
+    if room.len() < records::HEAD_SIZE {
         return false;
     }
     let sizes = records::load_sizes(room);

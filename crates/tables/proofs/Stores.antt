@@ -7,7 +7,8 @@ use native.Mathlib.Omega.{arith}
 use lib.ListN.{length, getD, drop, set}
 use Rattle.numbers.proofs.Bytes.{all-take, all-drop}
 use Rattle.rules.specs.Lists.{All}
-use Rattle.rules.specs.RoomAndSoundLedger.{IsByte}
+use Rattle.rules.specs.RoomAndSoundLedger.{IsByte, mostNames, mostReservations}
+use Rattle.records.specs.Layout.{placeStart, ledgerHeadOffset, ledgerHeadSize, countsOffset, pairSize, placeSize, bookingSize, headSize}
 use Rattle.records.specs.declared.Place.{Place}
 use Rattle.records.specs.declared.Booking.{Booking}
 use Rattle.records.specs.declared.Head.{Head}
@@ -26,8 +27,8 @@ use Rattle.tables.proofs.Moving.{other-default, renumbered-read, renumb
 
 -- what Sized says, of the contents
 pub record SizedBy (n : ℕ) (s : Sizes) : Type 0 where
-  pub names : s .names ≤ 256
-  pub reservations : s .reservations ≤ 1024
+  pub names : s .names ≤ mostNames
+  pub reservations : s .reservations ≤ mostReservations
   pub size : n ≡ roomSize (s .names) (s .reservations)
   pub used : s .used ≤ s .names
   pub live : s .live ≤ s .reservations
@@ -85,29 +86,29 @@ stays f xs ys k s b = still-sized xs ys s (b .0) (ap (λ c. c .sizes) (b .1) ∙
 module _ (xs : List ℕ) where
   pub places-length : length (contentsOf xs .places) ≡ contentsOf xs .sizes .names
   unfolding contentsOf
-  places-length = table-length placeOf 66 56 (sizesOf xs .names) xs
+  places-length = table-length placeOf placeSize headSize (sizesOf xs .names) xs
 
   pub bookings-length : length (contentsOf xs .bookings) ≡ contentsOf xs .sizes .reservations
   unfolding contentsOf
-  bookings-length = table-length bookingOf 18 (baseOf (sizesOf xs .names)) (sizesOf xs .reservations) xs
+  bookings-length = table-length bookingOf bookingSize (baseOf (sizesOf xs .names)) (sizesOf xs .reservations) xs
 
-  pub place-loaded : (i : ℕ) (z : Place) → i < contentsOf xs .sizes .names → placeOf (row 66 (56 + 66 * i) xs) ≡ getD (contentsOf xs .places) i z
+  pub place-loaded : (i : ℕ) (z : Place) → i < contentsOf xs .sizes .names → placeOf (row placeSize (placeStart i) xs) ≡ getD (contentsOf xs .places) i z
   unfolding contentsOf
-  place-loaded i z h = sym (table-at placeOf 66 56 (sizesOf xs .names) i xs h) ∙ other-default (contentsOf xs .places) i (placeOf []) z (rw places-length h)
+  place-loaded i z h = sym (table-at placeOf placeSize headSize (sizesOf xs .names) i xs h) ∙ other-default (contentsOf xs .places) i (placeOf []) z (rw places-length h)
 
   pub booking-loaded : (i : ℕ) (z : Booking) → i < contentsOf xs .sizes .reservations
-      → bookingOf (row 18 (baseOf (contentsOf xs .sizes .names) + 18 * i) xs) ≡ getD (contentsOf xs .bookings) i z
+      → bookingOf (row bookingSize (baseOf (contentsOf xs .sizes .names) + bookingSize * i) xs) ≡ getD (contentsOf xs .bookings) i z
   unfolding contentsOf
   booking-loaded i z h =
-      sym (table-at bookingOf 18 (baseOf (sizesOf xs .names)) (sizesOf xs .reservations) i xs h)
+      sym (table-at bookingOf bookingSize (baseOf (sizesOf xs .names)) (sizesOf xs .reservations) i xs h)
       ∙ other-default (contentsOf xs .bookings) i (bookingOf []) z (rw bookings-length h)
 
   -- two bytes hold an owner
   pub owner-fits : Sized xs → All IsByte xs → (i : ℕ) (z : Booking) → i < contentsOf xs .sizes .reservations → getD (contentsOf xs .bookings) i z .owner < 2 ^ 16
   owner-fits s a i z h =
       let r = sized-by xs s in
-      let from = baseOf (contentsOf xs .sizes .names) + 18 * i in
-      let fits = booking-fits (row 18 from xs) (all-take IsByte 18 (drop from xs) (all-drop IsByte from xs a)) (row-length 18 from xs (omega arith)) in
+      let from = baseOf (contentsOf xs .sizes .names) + bookingSize * i in
+      let fits = booking-fits (row bookingSize from xs) (all-take IsByte bookingSize (drop from xs) (all-drop IsByte from xs a)) (row-length bookingSize from xs (omega arith)) in
       subst (λ b. b .owner < 2 ^ 16) (booking-loaded i z h) (fits .owner)
 
 -- ── stores ─────────────────────────────────────────────────────────────────────────────────────
@@ -129,52 +130,52 @@ module _ (xs ys : List ℕ) (s : Sized xs) where
       → Holds (t .names) (baseOf (t .names)) (t .reservations) (put b k xs w) t h ps bs → ys ≡ put b k xs w → (length ys ≡ length xs) × (contentsOf ys ≡ contents t h ps bs)
   leaves b k w t h ps bs fits l holds e = rw e (put-length b k xs w fits l, held (put b k xs w) t h ps bs holds)
 
-  pub head-put : (h : Head) → HeadFits h → ys ≡ put 16 24 xs (headBytes h) → Becomes (withHead h) xs ys
+  pub head-put : (h : Head) → HeadFits h → ys ≡ put ledgerHeadOffset ledgerHeadSize xs (headBytes h) → Becomes (withHead h) xs ys
   unfolding contentsOf
   head-put h f =
-      leaves 16 24 (headBytes h) _ _ _ _ (omega (arith, s .size)) (head-length h)
+      leaves ledgerHeadOffset ledgerHeadSize (headBytes h) _ _ _ _ (omega (arith, s .size)) (head-length h)
       (head-stored names (baseOf names) reservations xs (omega arith) (omega (arith, s .size)) h f)
 
-  pub counts-put : (used live : ℕ) → used < 2 ^ 64 → live < 2 ^ 64 → ys ≡ put 40 16 xs (pairBytes used live) → Becomes (onCounts used live) xs ys
+  pub counts-put : (used live : ℕ) → used < 2 ^ 64 → live < 2 ^ 64 → ys ≡ put countsOffset pairSize xs (pairBytes used live) → Becomes (onCounts used live) xs ys
   unfolding contentsOf
   counts-put used live f g =
       leaves 40 16 (pairBytes used live) _ _ _ _ (omega (arith, s .size)) (pair-length used live)
       (counts-stored names (baseOf names) reservations xs (omega arith) (omega (arith, s .size)) used live f g)
 
-  pub place-put : (i : ℕ) (p : Place) → i < contentsOf xs .sizes .names → PlaceFits p → ys ≡ put (56 + 66 * i) 66 xs (placeBytes p) → Becomes (withPlace i p) xs ys
+  pub place-put : (i : ℕ) (p : Place) → i < contentsOf xs .sizes .names → PlaceFits p → ys ≡ put (placeStart i) placeSize xs (placeBytes p) → Becomes (withPlace i p) xs ys
   unfolding contentsOf
   place-put i p h f =
-      leaves (56 + 66 * i) 66 (placeBytes p) _ _ _ _ (omega (arith, s .size)) (place-length p (f .nameBytes))
+      leaves (placeStart i) placeSize (placeBytes p) _ _ _ _ (omega (arith, s .size)) (place-length p (f .nameBytes))
       (place-stored names (baseOf names) reservations xs (omega arith) (omega (arith, s .size)) i p h f)
 
   pub booking-put : (i : ℕ) (b : Booking) → i < contentsOf xs .sizes .reservations → BookingFits b
-      → ys ≡ put (baseOf (contentsOf xs .sizes .names) + 18 * i) 18 xs (bookingBytes b) → Becomes (withBooking i b) xs ys
+      → ys ≡ put (baseOf (contentsOf xs .sizes .names) + bookingSize * i) bookingSize xs (bookingBytes b) → Becomes (withBooking i b) xs ys
   unfolding contentsOf
   booking-put i b h f =
-      leaves (baseOf names + 18 * i) 18 (bookingBytes b) _ _ _ _ (omega (arith, s .size)) (booking-length b)
+      leaves (baseOf names + bookingSize * i) bookingSize (bookingBytes b) _ _ _ _ (omega (arith, s .size)) (booking-length b)
       (booking-stored names (baseOf names) reservations xs (omega arith) (omega (arith, s .size)) i b h f)
 
   -- the bytes of later bookings moved one booking nearer
   pub bookings-moved : (i c n : ℕ) (z : Booking) → suc (i + c) ≡ n → n ≤ contentsOf xs .sizes .reservations
-      → ys ≡ put (baseOf (contentsOf xs .sizes .names) + 18 * i) (18 * c) xs (row (18 * c) (baseOf (contentsOf xs .sizes .names) + 18 * suc i) xs)
+      → ys ≡ put (baseOf (contentsOf xs .sizes .names) + bookingSize * i) (bookingSize * c) xs (row (bookingSize * c) (baseOf (contentsOf xs .sizes .names) + bookingSize * suc i) xs)
       → Becomes (onBookings (movedDown i n z)) xs ys
   unfolding contentsOf
   bookings-moved i c n z e h =
-      let from = baseOf names + 18 * i in
-      let w = row (18 * c) (baseOf names + 18 * suc i) xs in
-      let fits : from + 18 * c ≤ length xs = omega (arith, s .size) in
-      let l : length w ≡ 18 * c = row-length (18 * c) (baseOf names + 18 * suc i) xs (omega (arith, s .size)) in
-      leaves from (18 * c) w _ _ _ _ fits l
+      let from = baseOf names + bookingSize * i in
+      let w = row (bookingSize * c) (baseOf names + bookingSize * suc i) xs in
+      let fits : from + bookingSize * c ≤ length xs = omega (arith, s .size) in
+      let l : length w ≡ bookingSize * c = row-length (bookingSize * c) (baseOf names + bookingSize * suc i) xs (omega (arith, s .size)) in
+      leaves from (bookingSize * c) w _ _ _ _ fits l
       (record {
-        sizes = sizes-apart from (18 * c) xs w fits l (inl (omega arith)) (inl (omega arith));
-        head = head-apart from (18 * c) xs w fits l (inl (omega arith));
-        places = table-apart placeOf 66 56 names from (18 * c) xs w fits l (inl (omega arith));
-        bookings = gap-closed bookingOf 18 (baseOf names) reservations xs i c (omega arith) (omega (arith, s .size)) z
+        sizes = sizes-apart from (bookingSize * c) xs w fits l (inl (omega arith)) (inl (omega arith));
+        head = head-apart from (bookingSize * c) xs w fits l (inl (omega arith));
+        places = table-apart placeOf placeSize headSize names from (bookingSize * c) xs w fits l (inl (omega arith));
+        bookings = gap-closed bookingOf bookingSize (baseOf names) reservations xs i c (omega arith) (omega (arith, s .size)) z
             ∙ ap (λ m. movedDown i m z (bookings (baseOf names) reservations xs)) e;
       })
 
 -- the counts last
-pub counted : (f h : Contents → Contents) (xs ys zs : List ℕ) (used live : ℕ) → Sized ys → Becomes f xs ys → (zs ≡ put 40 16 ys (pairBytes used live)) × ((used < 2 ^ 64) × (live < 2 ^ 64))
+pub counted : (f h : Contents → Contents) (xs ys zs : List ℕ) (used live : ℕ) → Sized ys → Becomes f xs ys → (zs ≡ put countsOffset pairSize ys (pairBytes used live)) × ((used < 2 ^ 64) × (live < 2 ^ 64))
     → onCounts used live (f (contentsOf xs)) ≡ h (contentsOf xs) → Becomes h xs zs
 counted f h xs ys zs used live s b (stored, fits) e = follow f (onCounts used live) h xs ys zs b (counts-put ys zs s used live (fits .0) (fits .1) stored) e
 
@@ -186,7 +187,7 @@ module _ (f : List Place → List Place) (xs ys : List ℕ) (s : Sized xs) (b : 
       (stays (onPlaces f) xs ys (λ c. refl) s b, rw (e, l .names), rw e (omega arith))
 
   pub finished : (g : List Booking → List Booking) (h : Contents → Contents) (zs ws : List ℕ) (used live : ℕ) → Becomes (onBookings g) ys zs
-      → (ws ≡ put 40 16 zs (pairBytes used live)) × ((used < 2 ^ 64) × (live < 2 ^ 64)) → onCounts used live (onBookings g (onPlaces f (contentsOf xs))) ≡ h (contentsOf xs) → Becomes h xs ws
+      → (ws ≡ put countsOffset pairSize zs (pairBytes used live)) × ((used < 2 ^ 64) × (live < 2 ^ 64)) → onCounts used live (onBookings g (onPlaces f (contentsOf xs))) ≡ h (contentsOf xs) → Becomes h xs ws
   finished g h zs ws used live a stored e =
       let both : Contents → Contents = λ c. onBookings g (onPlaces f c) in
       let d = follow (onPlaces f) (onBookings g) both xs ys zs b a refl in
@@ -196,13 +197,13 @@ module _ (f : List Place → List Place) (xs ys : List ℕ) (s : Sized xs) (b : 
 
 module _ (xs ys : List ℕ) (f : List Place → List Place) (b : Becomes (onPlaces f) xs ys) where
   pub place-replaced : (g : List Place → List Place) (zs : List ℕ) (to : ℕ) (p : Place) → Sized xs → to < contentsOf xs .sizes .names
-      → (zs ≡ put (56 + 66 * to) 66 ys (placeBytes p)) × PlaceFits p → set (f (contentsOf xs .places)) to p ≡ g (contentsOf xs .places) → Becomes (onPlaces g) xs zs
+      → (zs ≡ put (placeStart to) placeSize ys (placeBytes p)) × PlaceFits p → set (f (contentsOf xs .places)) to p ≡ g (contentsOf xs .places) → Becomes (onPlaces g) xs zs
   place-replaced g zs to p s h (stored, fits) turn =
       let again = stays (onPlaces f) xs ys (λ c. refl) s b in
       follow (onPlaces f) (withPlace to p) (onPlaces g) xs ys zs b (place-put ys zs again to p (rw (b .1) h) fits stored) (ap (λ ps. onPlaces (λ _. ps) (contentsOf xs)) turn)
 
   pub place-moved : (g : List Place → List Place) (zs : List ℕ) (from to : ℕ) (z p : Place) → Sized xs → from < contentsOf xs .sizes .names → to < contentsOf xs .sizes .names
-      → p ≡ placeOf (row 66 (56 + 66 * from) ys) → (zs ≡ put (56 + 66 * to) 66 ys (placeBytes p)) × PlaceFits p
+      → p ≡ placeOf (row placeSize (placeStart from) ys) → (zs ≡ put (placeStart to) placeSize ys (placeBytes p)) × PlaceFits p
       → set (f (contentsOf xs .places)) to (getD (f (contentsOf xs .places)) from z) ≡ g (contentsOf xs .places) → Becomes (onPlaces g) xs zs
   place-moved g zs from to z p s h k e stored turn =
       let read : p ≡ getD (f (contentsOf xs .places)) from z = e ∙ place-loaded ys from z (rw (b .1) h) ∙ ap (λ c. getD (c .places) from z) (b .1) in
@@ -212,15 +213,15 @@ module _ (xs ys : List ℕ) (f : List Booking → List Booking) (b : Becomes (on
   still-at : base ≡ baseOf (contentsOf ys .sizes .names)
   still-at = at ∙ sym (ap (λ c. baseOf (c .sizes .names)) (b .1))
 
-  booking-read : (from : ℕ) (z k : Booking) → from < contentsOf xs .sizes .reservations → k ≡ bookingOf (row 18 (base + 18 * from) ys) → k ≡ getD (f (contentsOf xs .bookings)) from z
+  booking-read : (from : ℕ) (z k : Booking) → from < contentsOf xs .sizes .reservations → k ≡ bookingOf (row bookingSize (base + bookingSize * from) ys) → k ≡ getD (f (contentsOf xs .bookings)) from z
   booking-read from z k h e =
-      e ∙ ap (λ n. bookingOf (row 18 (n + 18 * from) ys)) still-at ∙ booking-loaded ys from z (rw (b .1) h) ∙ ap (λ c. getD (c .bookings) from z) (b .1)
+      e ∙ ap (λ n. bookingOf (row bookingSize (n + bookingSize * from) ys)) still-at ∙ booking-loaded ys from z (rw (b .1) h) ∙ ap (λ c. getD (c .bookings) from z) (b .1)
 
   pub booking-replaced : (g : List Booking → List Booking) (zs : List ℕ) (to : ℕ) (k : Booking) → Sized xs → to < contentsOf xs .sizes .reservations
-      → (zs ≡ put (base + 18 * to) 18 ys (bookingBytes k)) × BookingFits k → set (f (contentsOf xs .bookings)) to k ≡ g (contentsOf xs .bookings) → Becomes (onBookings g) xs zs
+      → (zs ≡ put (base + bookingSize * to) bookingSize ys (bookingBytes k)) × BookingFits k → set (f (contentsOf xs .bookings)) to k ≡ g (contentsOf xs .bookings) → Becomes (onBookings g) xs zs
   booking-replaced g zs to k s h (stored, fits) turn =
       let again = stays (onBookings f) xs ys (λ c. refl) s b in
-      let e = stored ∙ ap (λ n. put (n + 18 * to) 18 ys (bookingBytes k)) still-at in
+      let e = stored ∙ ap (λ n. put (n + bookingSize * to) bookingSize ys (bookingBytes k)) still-at in
       follow (onBookings f) (withBooking to k) (onBookings g) xs ys zs b (booking-put ys zs again to k (rw (b .1) h) fits e) (ap (λ bs. onBookings (λ _. bs) (contentsOf xs)) turn)
 
 -- a booking is stored again only where it changes
@@ -229,10 +230,10 @@ module _ (xs ys : List ℕ) (f : Booking → Booking) (j : ℕ) (b : Becomes (on
   within = rw bookings-length h
 
   module _ (base : ℕ) (at : base ≡ baseOf (contentsOf xs .sizes .names)) where
-    pub owner-read : (k : Booking) → k ≡ bookingOf (row 18 (base + 18 * j) ys) → k ≡ getD (contentsOf xs .bookings) j z
+    pub owner-read : (k : Booking) → k ≡ bookingOf (row bookingSize (base + bookingSize * j) ys) → k ≡ getD (contentsOf xs .bookings) j z
     owner-read k e = booking-read xs ys (renumbered f j) b base at j z k h e ∙ renumbered-read f j z (contentsOf xs .bookings) within
 
-    pub owner-stored : (zs : List ℕ) (k : Booking) → Sized xs → (zs ≡ put (base + 18 * j) 18 ys (bookingBytes k)) × BookingFits k
+    pub owner-stored : (zs : List ℕ) (k : Booking) → Sized xs → (zs ≡ put (base + bookingSize * j) bookingSize ys (bookingBytes k)) × BookingFits k
         → k ≡ f (getD (contentsOf xs .bookings) j z) → Becomes (onBookings (renumbered f (j + 1))) xs zs
     owner-stored zs k s stored e =
         let bs = contentsOf xs .bookings in

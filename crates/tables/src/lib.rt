@@ -8,6 +8,7 @@ ghost use mathlib.Core.List.{_++_};
 ghost use Prim.Native.Nat.{_+_, _-_, _*_, _≤_, _<_};
 ghost use lib.ListN.{length, take, drop};
 ghost use Rattle.rules.specs.Lists.{All};
+ghost use Rattle.records.specs.Layout.{bookingSize};
 ghost use Rattle.room.specs.Contents.{contentsOf, Sized, baseOf, emptyPlace, emptyBooking, withOwner, raised, lowered, renumbered, liveBookings, withHead, withPlace, insertedPlace, freedPlace, appendedBooking, removedBooking};
 ghost use Rattle.tables.specs.Steps.{Becomes, onPlaces, onBookings, movedUp, movedDown};
 
@@ -52,16 +53,16 @@ fn move_places_down(room: &mut [u8], i: usize, used: usize)
     }
 }
 
-// Bytes come one booking nearer, the first first; the last 18 stand where they stood still. This compiles to one move of memory, which the same
+// Bytes come one booking nearer, the first first; those of the last one stand where they stood still. This compiles to one move of memory, which the same
 // by bookings does not.
 fn close_gap(part: &mut [u8])
-    requires { ⌜ 18 ≤ length (now part) ⌝ }
-    ensures { λ _. ⌜ now (part .exit) ≡ drop 18 (now (part .entry)) ++ drop (length (now (part .entry)) - 18) (now (part .entry)) ⌝ }
+    requires { ⌜ bookingSize ≤ length (now part) ⌝ }
+    ensures { λ _. ⌜ now (part .exit) ≡ drop bookingSize (now (part .entry)) ++ drop (length (now (part .entry)) - bookingSize) (now (part .entry)) ⌝ }
 {
-    let stop = part.len() - 18;
+    let stop = part.len() - records::BOOKING_SIZE;
     let mut k = 0;
     while k < stop {
-        part[k] = part[k + 18];
+        part[k] = part[k + records::BOOKING_SIZE];
         k += 1;
     }
 }
@@ -71,8 +72,8 @@ fn move_bookings_down(room: &mut [u8], base: usize, i: usize, live: usize)
     requires { ⌜ Sized (now room) × (base ≡ baseOf (contentsOf (now room) .sizes .names)) × (i < live) × (live ≤ contentsOf (now room) .sizes .reservations) ⌝ }
     ensures { λ _. ⌜ Becomes (onBookings (movedDown i live emptyBooking)) (now (room .entry)) (now (room .exit)) ⌝ }
 {
-    let from = base + 18 * i;
-    let end = base + 18 * live;
+    let from = base + records::BOOKING_SIZE * i;
+    let end = base + records::BOOKING_SIZE * live;
     close_gap(&mut room[from..end]);
 }
 
@@ -124,7 +125,7 @@ pub fn insert_place(room: &mut [u8], i: usize, place: Place)
     ensures { λ _. ⌜ (length (now (room .exit)) ≡ length (now (room .entry))) × (contentsOf (now (room .exit)) ≡ insertedPlace i place (contentsOf (now (room .entry)))) ⌝ }
 {
     let sizes = records::load_sizes(room);
-    let base = 56 + 66 * (sizes.names as usize);
+    let base = records::HEAD_SIZE + records::PLACE_SIZE * (sizes.names as usize);
     let used = sizes.used as usize;
     let live = sizes.live as usize;
     move_places_up(room, i, used);
@@ -139,13 +140,13 @@ pub fn free_place(room: &mut [u8], i: usize)
     ensures { λ _. ⌜ (length (now (room .exit)) ≡ length (now (room .entry))) × (contentsOf (now (room .exit)) ≡ freedPlace i (contentsOf (now (room .entry)))) ⌝ }
 {
     let sizes = records::load_sizes(room);
-    let base = 56 + 66 * (sizes.names as usize);
+    let base = records::HEAD_SIZE + records::PLACE_SIZE * (sizes.names as usize);
     let used = sizes.used as usize;
     let live = sizes.live as usize;
     move_places_down(room, i, used);
     let name = Name {
         length: 0,
-        bytes: [0; 24],
+        bytes: [0; rules::LONGEST_NAME],
     };
     let empty = Place {
         initial: 0,
@@ -166,7 +167,7 @@ pub fn append_booking(room: &mut [u8], booking: Booking)
     ensures { λ _. ⌜ (length (now (room .exit)) ≡ length (now (room .entry))) × (contentsOf (now (room .exit)) ≡ appendedBooking booking (contentsOf (now (room .entry)))) ⌝ }
 {
     let sizes = records::load_sizes(room);
-    let base = 56 + 66 * (sizes.names as usize);
+    let base = records::HEAD_SIZE + records::PLACE_SIZE * (sizes.names as usize);
     let live = sizes.live as usize;
     records::store_booking(room, base, live, booking);
     records::store_counts(room, sizes.used, sizes.live + 1);
@@ -178,7 +179,7 @@ pub fn remove_booking(room: &mut [u8], i: usize)
     ensures { λ _. ⌜ (length (now (room .exit)) ≡ length (now (room .entry))) × (contentsOf (now (room .exit)) ≡ removedBooking i (contentsOf (now (room .entry)))) ⌝ }
 {
     let sizes = records::load_sizes(room);
-    let base = 56 + 66 * (sizes.names as usize);
+    let base = records::HEAD_SIZE + records::PLACE_SIZE * (sizes.names as usize);
     let live = sizes.live as usize;
     move_bookings_down(room, base, i, live);
     let empty = Booking {

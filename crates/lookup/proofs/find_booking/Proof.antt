@@ -5,6 +5,7 @@ use native.Mathlib.Omega.{arith}
 use borrow.Author.Needs.{needs}
 use borrow.Author.Tests.{eq-eqb}
 use lib.ListN.{length, getD}
+use Rattle.records.specs.Layout.{bookingSize}
 use Rattle.records.specs.Rows.{row}
 use Rattle.records.specs.Records.{sizesOf, bookingOf}
 use Rattle.room.specs.Contents.{contentsOf, baseOf, liveBookings, emptyBooking}
@@ -45,7 +46,7 @@ loaded c =
     let xs = s .args .room .now in
     ap (λ b. b .id)
     (c .load-booking .ensures
-    ∙ ap (λ n. bookingOf (row 18 (baseOf n + 18 * middle l) xs)) (names-read (l .before))
+    ∙ ap (λ n. bookingOf (row bookingSize (baseOf n + bookingSize * middle l) xs)) (names-read (l .before))
     ∙ loaded-booking xs (s .pre .0) (middle l) emptyBooking (middle-live (c .before)))
 
 load-sizes-requires : tie.Need-load-sizes-requires Inv-loop μ-loop

@@ -1,15 +1,17 @@
 -- `lookup::name_at` meets its contract: the length and the bytes in the room are those of the place's name.
-use Prim.Native.Nat.{_+_, _*_, _≤_}
+use Prim.Native.Nat.{_≤_}
 use mathlib.Core.Path.{sym}
 use native.Mathlib.Omega.{arith}
 use borrow.Author.Needs.{needs}
 use lib.ListN.{getD}
+use Rattle.rules.specs.RoomAndSoundLedger.{longestName}
+use Rattle.records.specs.Layout.{nameStart}
 use Rattle.records.proofs.Rows.{span}
 use Rattle.room.proofs.InRoom.{name-length, name-spelled}
 use Rattle.lookup.proofs.name_at.Statement.{statement}
 use Rattle.lookup.proofs.name_at.Tie as tie
 
-short : (c : tie.Start) → getD (c .args .room .now) (97 + 66 * c .args .i) 0 ≤ 24
+short : (c : tie.Start) → getD (c .args .room .now) (nameStart (c .args .i)) 0 ≤ longestName
 short c = omega (arith, name-length (c .args .i) (c .args .room .now) (c .pre .0))
 
 returns : tie.Need-returns

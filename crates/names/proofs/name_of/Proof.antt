@@ -5,6 +5,7 @@ use native.Mathlib.Omega.{arith}
 use borrow.Author.Needs.{needs}
 use lib.ListN.{length, getD, set, replicate, length-set}
 use lib.Seq.{take-length}
+use Rattle.rules.specs.RoomAndSoundLedger.{longestName}
 use Rattle.names.specs.Names.{stored}
 use Rattle.names.proofs.Copying.{copied, copied-turn}
 use Rattle.names.proofs.Storing.{drop-repeat}
@@ -12,7 +13,7 @@ use Rattle.names.proofs.name_of.Statement.{statement}
 use Rattle.names.proofs.name_of.Tie as tie
 
 abbrev Inv-loop : tie.InvT-loop
-Inv-loop part bytes₀ i₀ bytes i = (i ≤ length part) × (length bytes ≡ 24) × (bytes ≡ copied bytes₀ part i)
+Inv-loop part bytes₀ i₀ bytes i = (i ≤ length part) × (length bytes ≡ longestName) × (bytes ≡ copied bytes₀ part i)
 
 abbrev μ-loop : tie.MeasureT-loop
 μ-loop part bytes₀ i₀ bytes i = length part - i
@@ -29,8 +30,8 @@ returns c =
     let l = c .before in
     let part = l .before .args .part .now in
     let e : l .loop .i ≡ length part = omega arith in
-    let over-zeros : l .loop .bytes ≡ copied (replicate 24 0) part (l .loop .i) = l .loop .inv .2 in
-    let b : l .loop .bytes ≡ stored part .bytes = over-zeros ∙ rw (e, take-length part, drop-repeat {A = ℕ} 0 (length part) 24) in
+    let over-zeros : l .loop .bytes ≡ copied (replicate longestName 0) part (l .loop .i) = l .loop .inv .2 in
+    let b : l .loop .bytes ≡ stored part .bytes = over-zeros ∙ rw (e, take-length part, drop-repeat {A = ℕ} 0 (length part) longestName) in
     λ j. record { length = length part; bytes = b j }
 
 pub name-of-spec : {M : Type 1} → statement M

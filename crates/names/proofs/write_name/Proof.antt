@@ -8,13 +8,14 @@ use native.Mathlib.Omega.{arith}
 use lib.ListN.{length, getD, take, set, length-set, drop-of-length-le}
 use lib.Seq.{paste, paste-zero, paste-suc, length-take-le}
 use Rattle.rules.specs.SnapshotsMigrationCertificates.{nameBytes}
+use Rattle.rules.specs.RoomAndSoundLedger.{longestName}
 use borrow.Author.Needs.{needs}
 use Rattle.names.proofs.write_name.Statement.{statement}
 use Rattle.names.proofs.write_name.Tie as tie
 
 -- under way: the first i bytes of the name stand behind the length
 abbrev Inv-loop : tie.InvT-loop
-Inv-loop part₀ end bytes i₀ part i = (i ≤ end) × (length bytes ≡ 24) × (length part ≡ 1 + end) × (length part₀ ≡ 1 + end) × (part ≡ paste part₀ 1 bytes i)
+Inv-loop part₀ end bytes i₀ part i = (i ≤ end) × (length bytes ≡ longestName) × (length part ≡ 1 + end) × (length part₀ ≡ 1 + end) × (part ≡ paste part₀ 1 bytes i)
 
 abbrev μ-loop : tie.MeasureT-loop
 μ-loop part₀ end bytes i₀ part i = end - i

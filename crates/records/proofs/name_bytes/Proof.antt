@@ -3,16 +3,17 @@ use Prim.Native.Nat.{_-_, _≤_}
 use mathlib.Core.Path.{_≡_, refl, ap, _∙_}
 use native.Mathlib.Omega.{arith}
 use lib.ListN.{length, getD, set, length-set}
+use Rattle.rules.specs.RoomAndSoundLedger.{longestName}
 use Rattle.names.proofs.Copying.{copied, copied-turn, copied-all}
 use borrow.Author.Needs.{needs}
 use Rattle.records.proofs.name_bytes.Statement.{statement}
 use Rattle.records.proofs.name_bytes.Tie as tie
 
 abbrev Inv-loop : tie.InvT-loop
-Inv-loop part bytes₀ i₀ bytes i = (i ≤ 24) × (length bytes ≡ 24) × (bytes ≡ copied bytes₀ part i)
+Inv-loop part bytes₀ i₀ bytes i = (i ≤ longestName) × (length bytes ≡ longestName) × (bytes ≡ copied bytes₀ part i)
 
 abbrev μ-loop : tie.MeasureT-loop
-μ-loop part bytes₀ i₀ bytes i = 24 - i
+μ-loop part bytes₀ i₀ bytes i = longestName - i
 
 loop-again : tie.Need-loop-again Inv-loop μ-loop
 loop-again c =

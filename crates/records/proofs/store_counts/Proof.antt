@@ -3,8 +3,8 @@ use mathlib.Core.Path.{_≡_, refl, _∙_}
 use mathlib.Core.List.{[], _∷_}
 use native.Mathlib.Omega.{arith}
 use Rattle.numbers.specs.LittleEndian.{littleBytes}
+use Rattle.records.specs.Layout.{countsOffset, liveOffset, pairWidths}
 use Rattle.records.specs.Rows.{put}
-use Rattle.records.specs.Records.{pairWidths}
 use Rattle.records.proofs.Fields.{fields-written}
 use borrow.Author.Needs.{needs}
 use Rattle.records.proofs.store_counts.Statement.{statement}
@@ -18,7 +18,7 @@ returns c =
     let a = s .args in
     let used : _ ≡ littleBytes 8 (a .used) = at-used .write8 .ensures in
     let live : _ ≡ littleBytes 8 (a .live) = at-live .write82 .ensures in (
-      (λ j. put 48 8 (put 40 8 (a .room .now) (used j)) (live j)) ∙ fields-written 40 pairWidths (a .used ∷ a .live ∷ []) (a .room .now) refl (omega (arith, s .pre)),
+      (λ j. put liveOffset 8 (put countsOffset 8 (a .room .now) (used j)) (live j)) ∙ fields-written countsOffset pairWidths (a .used ∷ a .live ∷ []) (a .room .now) refl (omega (arith, s .pre)),
       search needs,
     )
 

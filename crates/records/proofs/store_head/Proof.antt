@@ -2,8 +2,9 @@
 use mathlib.Core.Path.{_≡_, refl, _∙_}
 use native.Mathlib.Omega.{arith}
 use Rattle.numbers.specs.LittleEndian.{littleBytes}
+use Rattle.records.specs.Layout.{ledgerHeadOffset, lastVersionOffset, baselineOffset, headWidths}
 use Rattle.records.specs.Rows.{put}
-use Rattle.records.specs.Records.{headWidths, headNumbers}
+use Rattle.records.specs.Records.{headNumbers}
 use Rattle.records.proofs.Fields.{fields-written}
 use borrow.Author.Needs.{needs}
 use Rattle.records.proofs.store_head.Statement.{statement}
@@ -20,7 +21,7 @@ returns c =
     let next : _ ≡ littleBytes 8 (h .«next_id») = at-next .write8 .ensures in
     let version : _ ≡ littleBytes 8 (h .«last_version») = at-version .write82 .ensures in
     let baseline : _ ≡ littleBytes 8 (h .baseline) = at-baseline .write83 .ensures in (
-      (λ j. put 32 8 (put 24 8 (put 16 8 room (next j)) (version j)) (baseline j)) ∙ fields-written 16 headWidths (headNumbers h) room refl (omega (arith, s .pre)),
+      (λ j. put baselineOffset 8 (put lastVersionOffset 8 (put ledgerHeadOffset 8 room (next j)) (version j)) (baseline j)) ∙ fields-written ledgerHeadOffset headWidths (headNumbers h) room refl (omega (arith, s .pre)),
       search needs,
     )
 

@@ -1,5 +1,5 @@
 -- `records::store_place` meets its contract: the part that comes back is put in its row.
-use Prim.Native.Nat.{_+_, _*_}
+use Rattle.records.specs.Layout.{placeStart, placeSize}
 use borrow.Author.Needs.{needs}
 use Rattle.records.specs.Rows.{put}
 use Rattle.records.proofs.Rows.{span}
@@ -9,8 +9,8 @@ use Rattle.records.proofs.store_place.Tie as tie
 returns : tie.Need-returns
 returns c =
     let a = c .before .before .before .before .before .args in
-    let to = 56 + 66 * a .i in
-    ((λ j. put to (span to 66 j) (a .room .now) (c .before .before .write-place .ensures j)), search needs)
+    let to = placeStart (a .i) in
+    ((λ j. put to (span to placeSize j) (a .room .now) (c .before .before .write-place .ensures j)), search needs)
 
 pub store-place-spec : {M : Type 1} → statement M
 store-place-spec =

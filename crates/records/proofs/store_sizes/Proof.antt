@@ -3,8 +3,9 @@ use mathlib.Core.Path.{_≡_, refl, ap, _∙_}
 use mathlib.Core.List.{[], _∷_}
 use native.Mathlib.Omega.{arith}
 use Rattle.numbers.specs.LittleEndian.{littleBytes}
+use Rattle.records.specs.Layout.{reservationsOffset, countsOffset, capacityOffset, pairSize, pairWidths}
 use Rattle.records.specs.Rows.{put}
-use Rattle.records.specs.Records.{pairWidths, pairBytes}
+use Rattle.records.specs.Records.{pairBytes}
 use Rattle.records.proofs.Fields.{fields-written}
 use borrow.Author.Needs.{needs}
 use Rattle.records.proofs.store_sizes.Statement.{statement}
@@ -21,8 +22,8 @@ returns c =
     let names : _ ≡ littleBytes 8 (z .names) = at-names .write8 .ensures in
     let reservations : _ ≡ littleBytes 8 (z .reservations) = at-reservations .write82 .ensures in (
       at-counts .store-counts .ensures .0
-          ∙ (λ j. put 40 16 (put 8 8 (put 0 8 room (names j)) (reservations j)) (pairBytes (z .used) (z .live)))
-          ∙ ap (λ ys. put 40 16 ys (pairBytes (z .used) (z .live))) (fields-written 0 pairWidths (z .names ∷ z .reservations ∷ []) room refl (omega (arith, s .pre))),
+          ∙ (λ j. put countsOffset pairSize (put reservationsOffset 8 (put capacityOffset 8 room (names j)) (reservations j)) (pairBytes (z .used) (z .live)))
+          ∙ ap (λ ys. put countsOffset pairSize ys (pairBytes (z .used) (z .live))) (fields-written capacityOffset pairWidths (z .names ∷ z .reservations ∷ []) room refl (omega (arith, s .pre))),
       search needs,
     )
 

@@ -2,8 +2,9 @@
 use mathlib.Core.Path.{_≡_, refl, _∙_}
 use native.Mathlib.Omega.{arith}
 use Rattle.numbers.specs.LittleEndian.{littleBytes}
+use Rattle.records.specs.Layout.{amountOffset, ownerOffset, bookingSize, bookingWidths}
 use Rattle.records.specs.Rows.{put}
-use Rattle.records.specs.Records.{bookingWidths, bookingNumbers, bookingBytes}
+use Rattle.records.specs.Records.{bookingNumbers, bookingBytes}
 use Rattle.records.proofs.Rows.{put-all}
 use Rattle.records.proofs.Fields.{fields-written}
 use borrow.Author.Needs.{needs}
@@ -21,9 +22,9 @@ returns c =
     let id : _ ≡ littleBytes 8 (k .id) = at-id .write8 .ensures in
     let amount : _ ≡ littleBytes 8 (k .amount) = at-amount .write82 .ensures in
     let owner : _ ≡ littleBytes 2 (k .owner) = at-owner .write2 .ensures in
-    (λ j. put 16 2 (put 8 8 (put 0 8 part (id j)) (amount j)) (owner j))
+    (λ j. put ownerOffset 2 (put amountOffset 8 (put 0 8 part (id j)) (amount j)) (owner j))
     ∙ fields-written 0 bookingWidths (bookingNumbers k) part refl (omega (arith, s .pre))
-    ∙ put-all 18 part (bookingBytes k) (s .pre)
+    ∙ put-all bookingSize part (bookingBytes k) (s .pre)
 
 pub write-booking-spec : {M : Type 1} → statement M
 write-booking-spec =

@@ -3,16 +3,17 @@ use Prim.Native.Nat.{_-_, _≤_}
 use mathlib.Core.Path.{_≡_, refl, ap, _∙_}
 use native.Mathlib.Omega.{arith}
 use lib.ListN.{length, getD, set, length-set}
+use Rattle.rules.specs.RoomAndSoundLedger.{longestName}
 use Rattle.names.proofs.Copying.{copied, copied-turn, copied-all}
 use borrow.Author.Needs.{needs}
 use Rattle.records.proofs.write_name_bytes.Statement.{statement}
 use Rattle.records.proofs.write_name_bytes.Tie as tie
 
 abbrev Inv-loop : tie.InvT-loop
-Inv-loop part₀ bytes i₀ part i = (i ≤ 24) × (length bytes ≡ 24) × (length part ≡ 24) × (part ≡ copied part₀ bytes i)
+Inv-loop part₀ bytes i₀ part i = (i ≤ longestName) × (length bytes ≡ longestName) × (length part ≡ longestName) × (part ≡ copied part₀ bytes i)
 
 abbrev μ-loop : tie.MeasureT-loop
-μ-loop part₀ bytes i₀ part i = 24 - i
+μ-loop part₀ bytes i₀ part i = longestName - i
 
 loop-again : tie.Need-loop-again Inv-loop μ-loop
 loop-again c =

@@ -1,9 +1,11 @@
 -- `records::write_place` meets its contract: its numbers, one after the other, and the name's bytes fill the part. The making of each smaller part gives its length.
 use mathlib.Core.Path.{_≡_, refl, ap, _∙_}
 use native.Mathlib.Omega.{arith}
+use Rattle.rules.specs.RoomAndSoundLedger.{longestName}
 use Rattle.numbers.specs.LittleEndian.{littleBytes}
+use Rattle.records.specs.Layout.{placeSize, remainingOffset, reservedOffset, committedOffset, limitOffset, accountOffset, nameBytesOffset, nameOffset, placeWidths}
 use Rattle.records.specs.Rows.{put, fieldBytes}
-use Rattle.records.specs.Records.{placeWidths, placeNumbers, placeBytes}
+use Rattle.records.specs.Records.{placeNumbers, placeBytes}
 use Rattle.records.proofs.Rows.{put-next, put-all}
 use Rattle.records.proofs.Fields.{fields-length, fields-written}
 use borrow.Author.Needs.{needs}
@@ -32,10 +34,10 @@ returns c =
     let account : _ ≡ littleBytes 1 (p .account) = at-account .write1 .ensures in
     let length : _ ≡ littleBytes 1 (p .name .length) = at-length .write12 .ensures in
     let bytes : _ ≡ p .name .bytes = at-bytes .write-name-bytes .ensures in
-    (λ j. put 42 24 (put 41 1 (put 40 1 (put 32 8 (put 24 8 (put 16 8 (put 8 8 (put 0 8 part (initial j)) (remaining j)) (reserved j)) (committed j)) (limit j)) (account j)) (length j)) (bytes j))
-    ∙ ap (λ xs. put 42 24 xs (p .name .bytes)) (fields-written 0 placeWidths (placeNumbers p) part refl (omega (arith, s .pre)))
-    ∙ put-next 0 42 part front (omega (arith, s .pre)) (fields-length placeWidths (placeNumbers p) refl) 24 (p .name .bytes)
-    ∙ put-all 66 part (placeBytes p) (s .pre)
+    (λ j. put nameBytesOffset longestName (put nameOffset 1 (put accountOffset 1 (put limitOffset 8 (put committedOffset 8 (put reservedOffset 8 (put remainingOffset 8 (put 0 8 part (initial j)) (remaining j)) (reserved j)) (committed j)) (limit j)) (account j)) (length j)) (bytes j))
+    ∙ ap (λ xs. put nameBytesOffset longestName xs (p .name .bytes)) (fields-written 0 placeWidths (placeNumbers p) part refl (omega (arith, s .pre)))
+    ∙ put-next 0 nameBytesOffset part front (omega (arith, s .pre)) (fields-length placeWidths (placeNumbers p) refl) longestName (p .name .bytes)
+    ∙ put-all placeSize part (placeBytes p) (s .pre)
 
 -- each store leaves the part as long as it was
 same-length : tie.Need-same-length

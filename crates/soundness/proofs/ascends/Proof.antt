@@ -7,7 +7,7 @@ use lib.Dec.{ltb}
 use lib.ListN.{take}
 use lib.Seq.{take-all}
 use Rattle.rules.specs.Lists.{All}
-use Rattle.rules.specs.RoomAndSoundLedger.{IsByte}
+use Rattle.rules.specs.RoomAndSoundLedger.{IsByte, longestName}
 use Rattle.rules.specs.SnapshotsMigrationCertificates.{numberOf}
 use Rattle.names.specs.declared.Name.{Name}
 use Rattle.names.specs.Names.{IsStored}
@@ -103,11 +103,11 @@ name-length-requires-2 c κs = search needs
 returns-4 : tie.Need-returns-4 Inv-loop μ-loop
 returns-4 c =
     let l = c .before .before .before in
-    let e : 8 * l .loop .k ≡ 24 = omega arith in
+    let e : 8 * l .loop .k ≡ longestName = omega arith in
     let whole = subst (λ n. take n (Earlier l .bytes) ≡ take n (Later l .bytes)) e (l .loop .inv .2) in
     let later = entry l .pre .1 .1 in
     let same : Earlier l .bytes ≡ Later l .bytes =
-    sym (take-all 24 (Earlier l .bytes) (omega (arith, earlier l .width))) ∙ whole ∙ take-all 24 (Later l .bytes) (omega (arith, later .width)) in
+    sym (take-all longestName (Earlier l .bytes) (omega (arith, earlier l .width))) ∙ whole ∙ take-all longestName (Later l .bytes) (omega (arith, later .width)) in
     let lengths = ap₂ ltb (sym (c .before .name-length .ensures)) (sym (c .name-length2 .ensures)) in
     by-answer (subst (Decides _) lengths (by-lengths (Earlier l) (Later l) (earlier l) later same)) (λ h _. h) (λ h. h (l .loop .inv .0))
 

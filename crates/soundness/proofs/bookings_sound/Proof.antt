@@ -6,6 +6,7 @@ use Prim.Native.Nat.{_+_, _-_, _≤_, _<_}
 use native.Mathlib.Omega.{arith}
 use borrow.Author.Needs.{needs}
 use lib.ListN.{length, drop, length-set, drop-of-length-le}
+use Rattle.records.specs.Layout.{bookingSize}
 use Rattle.records.specs.declared.Booking.{Booking}
 use Rattle.records.proofs.Rows.{table-length}
 use Rattle.records.specs.Records.{bookingOf, bookings}
@@ -36,7 +37,7 @@ loaded : (c : tie.After-load-booking Inv-loop μ-loop) → let l = c .before .be
 loaded c =
     let l = c .before .before in
     let a = entry l .args in
-    table-from bookingOf 18 (a .base) (a .room .now) (a .sizes .live) (l .loop .j) (omega arith) ∙ ap (λ b. b ∷ drop (l .loop .j + 1) (live l)) (sym (c .load-booking .ensures))
+    table-from bookingOf bookingSize (a .base) (a .room .now) (a .sizes .live) (l .loop .j) (omega arith) ∙ ap (λ b. b ∷ drop (l .loop .j + 1) (live l)) (sym (c .load-booking .ensures))
 
 -- sound bookings as a whole, seen from the one that was loaded
 abbrev From : tie.After-load-booking Inv-loop μ-loop → Type 0
@@ -85,7 +86,7 @@ returns-3 : tie.Need-returns-3 Inv-loop μ-loop
 returns-3 c =
     let l = c .before in
     let a = entry l .args in
-    let ended : drop (l .loop .j) (live l) ≡ [] = drop-of-length-le (live l) {i = l .loop .j} (omega (arith, table-length bookingOf 18 (a .base) (a .sizes .live) (a .room .now))) in
+    let ended : drop (l .loop .j) (live l) ≡ [] = drop-of-length-le (live l) {i = l .loop .j} (omega (arith, table-length bookingOf bookingSize (a .base) (a .sizes .live) (a .room .now))) in
     leave
     (λ zero. l .loop .inv .3 (subst (Booked (l .loop .last) (a .next-id) (a .sizes .used) (l .loop .reserved)) (sym ended) (booked-none _ _ _ _ zero)))
     (λ whole. none-booked _ _ _ _ (subst (Booked (l .loop .last) (a .next-id) (a .sizes .used) (l .loop .reserved)) ended (l .loop .inv .2 whole)))

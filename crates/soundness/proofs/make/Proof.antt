@@ -4,6 +4,7 @@ use native.Mathlib.Omega.{arith}
 use borrow.Author.Needs.{needs}
 use lib.ListN.{length}
 use Rattle.rules.proofs.Tests.{none-some}
+use Rattle.records.specs.Layout.{ledgerHeadOffset, ledgerHeadSize}
 use Rattle.records.specs.Rows.{put}
 use Rattle.records.specs.Records.{headBytes}
 use Rattle.room.specs.Contents.{contentsOf}
@@ -44,8 +45,8 @@ returns-2 c =
     let cleared = sizes .before .before .before .before in
     let start = cleared .before .before in
     let a = start .before .before .before .args in
-    let written : head .store-head .last .0 ≡ put 16 24 (sizesPut (freshSizes (a .names) (a .reservations)) (zeros (length (a .room .now)))) (headBytes freshHead) =
-    head .store-head .ensures .0 ∙ ap (λ xs. put 16 24 xs (headBytes freshHead)) (sizes .store-sizes .ensures .0 ∙ ap (sizesPut (freshSizes (a .names) (a .reservations))) (cleared .clear .ensures)) in
+    let written : head .store-head .last .0 ≡ put ledgerHeadOffset ledgerHeadSize (sizesPut (freshSizes (a .names) (a .reservations)) (zeros (length (a .room .now)))) (headBytes freshHead) =
+    head .store-head .ensures .0 ∙ ap (λ xs. put ledgerHeadOffset ledgerHeadSize xs (headBytes freshHead)) (sizes .store-sizes .ensures .0 ∙ ap (sizesPut (freshSizes (a .names) (a .reservations))) (cleared .clear .ensures)) in
     record {
       overwrites = λ L e size. record {
         answer = refl;

@@ -1,6 +1,7 @@
 -- `soundness::name_part` meets its contract.
 use Prim.Native.Nat.{_+_, _*_}
 use native.Mathlib.Omega.{arith}
+use Rattle.records.specs.Layout.{nameBytesStart}
 use borrow.Author.Needs.{needs}
 use Rattle.records.proofs.Rows.{span, row-length}
 use Rattle.soundness.proofs.Standing.{part-stands}
@@ -11,7 +12,7 @@ returns : tie.Need-returns
 returns c =
     let s = c .before in
     let room = s .args .room .now in
-    let from = 98 + 66 * s .args .i + 8 * s .args .part in
+    let from = nameBytesStart (s .args .i) + 8 * s .args .part in
     (rw span (part-stands (s .args .i) room (s .args .part) (s .pre .1)), rw span (row-length 8 from room (omega arith)))
 
 pub name-part-spec : {M : Type 1} → statement M

@@ -7,7 +7,7 @@ use native.Mathlib.Omega.{arith}
 use borrow.Author.Needs.{needs}
 use lib.ListN.{getD, List·getD-eq-default}
 use Rattle.rules.specs.Lists.{All}
-use Rattle.rules.specs.RoomAndSoundLedger.{IsByte}
+use Rattle.rules.specs.RoomAndSoundLedger.{IsByte, longestName}
 use Rattle.numbers.specs.LittleEndian.{littleNumber}
 use Rattle.numbers.proofs.Bytes.{all-bytes}
 use Rattle.records.specs.Rows.{row}
@@ -104,7 +104,7 @@ returns-3 c =
       fits = omega (arith, length);
       width = width;
       clear = λ k from. ⊎-elim (λ below. l .loop .inv .1 k (omega arith) (omega (arith, length)))
-          (λ past. List·getD-eq-default (Bytes l) 0 (omega (arith, width))) (less-or-not k 24);
+          (λ past. List·getD-eq-default (Bytes l) 0 (omega (arith, width))) (less-or-not k longestName);
     })
 
 pub name-sound-spec : {M : Type 1} → statement M

@@ -11,6 +11,7 @@ use Rattle.rules.specs.RoomAndSoundLedger.{isVacant}
 use Rattle.moves.specs.Moves.{meaning, SeatSound}
 use Rattle.records.specs.Records.{placeOf, places}
 use mathlib.Core.Bool.{false}
+use Rattle.records.specs.Layout.{placeSize, headSize}
 use Rattle.soundness.specs.Facts.{seatAt, NameBefore, PlaceSound, PlacesSound}
 use Rattle.soundness.specs.Steps.{placeAt, Noted}
 use Rattle.soundness.proofs.Deciding.{refuse, refused, accepted, by-equal}
@@ -54,7 +55,7 @@ ascends-requires c κs =
     let l = c .before .before .before .before .before .before in
     let room = entry l .args .room .now in
     let i = l .loop .i in
-    (omega arith, (λ h. table-all placeOf 66 56 room PlaceSound i (i - 1) (l .loop .inv .2) (omega arith) .name, passed c .name))
+    (omega arith, (λ h. table-all placeOf placeSize headSize room PlaceSound i (i - 1) (l .loop .inv .2) (omega arith) .name, passed c .name))
 
 returns-3 : tie.Need-returns-3 Inv-loop μ-loop
 returns-3 c =

@@ -1,7 +1,7 @@
 -- `soundness::sizes_sound` meets its contract.
 use native.Mathlib.Omega.{arith}
 use borrow.Author.Needs.{needs}
-use Rattle.rules.specs.RoomAndSoundLedger.{InRange}
+use Rattle.rules.specs.RoomAndSoundLedger.{InRange, mostNames, mostReservations}
 use Rattle.soundness.proofs.Deciding.{refuse, refused, accepted, by-equal}
 use Rattle.soundness.proofs.sizes_sound.Statement.{statement}
 use Rattle.soundness.proofs.sizes_sound.Tie as tie
@@ -18,7 +18,7 @@ returns-3 c = refuse (λ h. omega (arith, h .used))
 returns-4 : tie.Need-returns-4
 returns-4 c = refuse (λ h. omega (arith, h .live))
 
-ranges : (c : tie.Else4) → let s = c .before .before .before .before .before .before .before .before .args .sizes in InRange 1 256 (s .names) × InRange 1 1024 (s .reservations)
+ranges : (c : tie.Else4) → let s = c .before .before .before .before .before .before .before .before .args .sizes in InRange 1 mostNames (s .names) × InRange 1 mostReservations (s .reservations)
 ranges c =
     let reservations = c .before .before .before .before in
     (accepted (reservations .before .before .before .in-range .ensures) (reservations .before .before .if1 .left), accepted (reservations .before .in-range2 .ensures) (reservations .if2 .left))

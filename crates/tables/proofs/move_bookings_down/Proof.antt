@@ -4,6 +4,7 @@ use Prim.Native.Nat.{suc, _+_, _-_, _*_}
 use native.Mathlib.Omega.{arith}
 use borrow.Author.Needs.{needs}
 use lib.ListN.{length}
+use Rattle.records.specs.Layout.{bookingSize}
 use Rattle.records.specs.Rows.{row, put}
 use Rattle.room.specs.Contents.{contentsOf, emptyBooking}
 use Rattle.tables.proofs.Gap.{gap-put}
@@ -36,12 +37,12 @@ returns c =
     let room = a .room .now in
     let z = sized s in
     let k = a .live - 1 - a .i in
-    let next : a .base + 18 * a .i + 18 ≡ a .base + 18 * suc (a .i) = omega arith in
-    let moved = gap-put 18 (18 * k) ((a .base + 18 * a .live) - (a .base + 18 * a .i)) (a .base + 18 * a .i) room _
+    let next : a .base + bookingSize * a .i + bookingSize ≡ a .base + bookingSize * suc (a .i) = omega arith in
+    let moved = gap-put bookingSize (bookingSize * k) ((a .base + bookingSize * a .live) - (a .base + bookingSize * a .i)) (a .base + bookingSize * a .i) room _
     (omega arith) (omega arith) (c .before .before .close-gap .ensures) in
     bookings-moved room _ (s .pre .0) (a .i) k (a .live) emptyBooking (omega arith) (s .pre .3)
-    (moved ∙ ap (λ at. put (a .base + 18 * a .i) (18 * k) room (row (18 * k) at room)) next
-    ∙ ap (λ b. put (b + 18 * a .i) (18 * k) room (row (18 * k) (b + 18 * suc (a .i)) room)) (s .pre .1))
+    (moved ∙ ap (λ at. put (a .base + bookingSize * a .i) (bookingSize * k) room (row (bookingSize * k) at room)) next
+    ∙ ap (λ b. put (b + bookingSize * a .i) (bookingSize * k) room (row (bookingSize * k) (b + bookingSize * suc (a .i)) room)) (s .pre .1))
 
 pub move-bookings-down-spec : {M : Type 1} → statement M
 move-bookings-down-spec =
