@@ -9,7 +9,6 @@ use borrow.Author.Tests.{lt-ltb, le-ltb}
 use lib.Dec.{ltb}
 use lib.IntN.{ℤ}
 use lib.ListN.{length}
-use Rattle.rules.specs.Lists.{All}
 use Rattle.rules.specs.RoomAndSoundLedger.{Name, Account, Ledger, isVacant, withPlaces, holdsPlace, seatIn, hasAccount, Sound, longestName}
 use Rattle.rules.specs.AnswerNumbers.{Reply, Refusal, NameTooLong, NamesFull as FullOfNames, replyOf, Outcome, outcome, refused}
 use Rattle.rules.specs.AccountRules.{Move, refuse, tell, write, seated, hasRoom, doneWith, perform, isTooLong, onName, ensureRule, topUpRule, limitRule, ensure, topUp, limit, operate}
@@ -19,28 +18,16 @@ use Rattle.rules.proofs.Tests.{by-bool, true-false}
 use Rattle.rules.proofs.Places.{account-holds}
 use Rattle.moves.specs.Moves.{accountOf, meaning, keptSeat, SeatSound}
 use Rattle.moves.specs.declared.Seat.{Seat}
-use Rattle.records.specs.declared.Place.{Place}
-use Rattle.room.specs.Contents.{contentsOf, Sized, usedPlaces, placeOfName}
+use Rattle.room.specs.Contents.{contentsOf, usedPlaces, placeOfName}
 use Rattle.room.specs.Room.{contentsIn, IsRoom, SoundRoom, Performed}
-use Rattle.room.specs.Seats.{FoundIn, seatFound}
+use Rattle.room.specs.Seats.{seatFound}
 use Rattle.room.specs.declared.Found.{Found}
-use Rattle.room.specs.declared.Found.the-variants.{At, Absent}
 use Rattle.room.proofs.Seating.{seat-found, kept-account, kept-limit, seat-sound}
-use Rattle.lookup.proofs.Places.{name-found, noPlace}
-use Rattle.room.proofs.SoundRoom.{places-are, sized, names-short}
+use Rattle.room.proofs.SoundRoom.{places-are}
 use Rattle.seats.specs.Writing.{WritesSeat}
 use Rattle.seats.specs.declared.Written.{Written}
 use Rattle.seats.specs.declared.Written.the-variants.{Done, NamesFull}
 use Rattle.accounts.proofs.Writes.{Vacates, ensure-vacates, top-up-vacates, limit-vacates}
-
--- what a look-up answers is in the places
-pub found-in : (a : Name) (ps : List Place) (found : Found) → found ≡ placeOfName a ps → FoundIn found ps
-found-in a ps (At i) e = name-found a noPlace ps i (sym e) .0
-found-in a ps Absent e = tt
-
--- what a look-up asks
-pub searchable : (xs : List ℕ) → SoundRoom xs → Sized xs × All (λ p. p .name .length ≤ longestName) (usedPlaces (contentsOf xs))
-searchable xs sound = (sized xs (sound .ledger) (sound .is-room), names-short xs (sound .ledger) (sound .is-room))
 
 or-held : (b c d : Bool) → c ≡ true → b || c || d ≡ true
 or-held true c d e = refl

@@ -3,18 +3,13 @@ use mathlib.Core.Path.{_≡_, refl, ap, subst}
 use mathlib.Core.Bool.{true, false}
 use mathlib.Core.List.{List}
 use mathlib.Core.Option.{Option, none, some}
-use Prim.Native.Nat.{ℕ, zero, suc, _+_, _^_, _≤_, _<_}
+use Prim.Native.Nat.{ℕ, zero, suc, _+_}
 use native.Mathlib.Omega.{arith}
-use borrow.Author.Tests.{le-leb}
 use lib.Dec.{ltb}
 use lib.IntN.{ℤ, pos, negsuc}
-use lib.Signed.{mag}
-use Rattle.rules.specs.RoomAndSoundLedger.{M, Account, Seat as RulesSeat, seat, isVacant, hasAccount, AddsUp}
+use Rattle.rules.specs.RoomAndSoundLedger.{M, Account, Seat as RulesSeat, seat, isVacant, hasAccount}
 use Rattle.rules.specs.AccountRules.{Move, write, ensureRule, topUpRule, limitRule}
-use Rattle.rules.specs.Domain.{IsAmount}
 use Rattle.rules.proofs.Tests.{by-test, true-false}
-use Rattle.moves.specs.Moves.{meaning, kept, keptSeat, SeatSound}
-use Rattle.moves.specs.declared.Seat.{Seat}
 
 -- a vacant seat is written only for a name without an account
 abbrev pub Vacates : (Option Account → ℕ → Move) → Type 0
@@ -53,20 +48,3 @@ pub limit-vacates : (z : ℤ) → Vacates (limitRule z)
 unfolding limitRule
 limit-vacates (negsuc n) c l zs t e v = absurd (let w : _≡_ {A = ℕ} 0 1 = cc in omega arith)
 limit-vacates (pos n) c l zs t e v = let q : t ≡ seat c n = cc in vacant-seat c n (subst (λ s. isVacant s ≡ true) q v)
-
--- ── numbers ────────────────────────────────────────────────────────────────────────────────────
-
--- what the check knows of an amount
-pub amount-fits : (z : ℤ) → mag z < 2 ^ 63 → IsAmount z
-unfolding M
-amount-fits (pos n) h = le-leb n M (omega arith)
-amount-fits (negsuc n) h = le-leb n M (omega arith)
-
--- the amounts of a sound seat are at most M: without an account they are 0
-kept-small : (c : Option Account) (l : ℕ) → AddsUp c → (kept c l .initial ≤ M) × (kept c l .remaining ≤ M)
-kept-small none l h = (omega arith, omega arith)
-kept-small (some c) l h = (h .1, omega arith)
-
-pub seat-small : (s : Seat) → SeatSound s → (s .initial ≤ M) × (s .remaining ≤ M)
-unfolding keptSeat
-seat-small s known = subst (λ (t : Seat). (t .initial ≤ M) × (t .remaining ≤ M)) (known .form) (kept-small (meaning s .account) (s .limit) (known .adds-up))

@@ -16,7 +16,10 @@ use Rattle.names.specs.Names.{spelled}
 use Rattle.records.specs.declared.Place.{Place}
 use Rattle.room.specs.declared.Found.{Found}
 use Rattle.room.specs.declared.Found.the-variants.{At, Absent}
-use Rattle.room.specs.Contents.{goesBehind, placeOfName, placeForName, emptyPlace}
+use Rattle.room.specs.Contents.{goesBehind, placeOfName, placeForName, emptyPlace, contentsOf, Sized, usedPlaces}
+use Rattle.room.specs.Room.{SoundRoom}
+use Rattle.room.specs.Seats.{FoundIn}
+use Rattle.room.proofs.SoundRoom.{searchable}
 use Rattle.lookup.proofs.FirstPlace.{firstPlace, FirstIs, first-is, first-only}
 
 pub eq-not-lt : Ordering·eq ≢ Ordering·lt
@@ -91,6 +94,15 @@ module _ (a : Name) (d : Place) where
   goes-only ps i g =
       let h = goes-at ps in
       omega (arith, nearer ps i (placeForName a ps) g h, nearer ps (placeForName a ps) i h g)
+
+-- a place that a look-up answers is one of those searched
+found-in : (a : Name) (ps : List Place) (f : Found) → f ≡ placeOfName a ps → FoundIn f ps
+found-in a ps (At i) e = name-found a noPlace ps i (sym e) .0
+found-in a ps Absent e = tt
+
+-- so the seat there may be read (`seats::seat_at`)
+pub seat-readable : (xs : List ℕ) → SoundRoom xs → (a : Name) (f : Found) → f ≡ placeOfName a (usedPlaces (contentsOf xs)) → Sized xs × FoundIn f (usedPlaces (contentsOf xs))
+seat-readable xs sound a f e = (searchable xs sound .sized, found-in a (usedPlaces (contentsOf xs)) f e)
 
 pub place-within : (a : Name) (ps : List Place) → placeForName a ps ≤ length ps
 place-within a ps = goes-at a noPlace ps .within

@@ -4,13 +4,12 @@ use room::Found;
 ghost use mathlib.Core.Path.{_≡_};
 ghost use Prim.Native.Nat.{_+_, _*_, _≤_, _<_};
 ghost use lib.ListN.{length};
-ghost use Rattle.rules.specs.Lists.{All, Pairwise};
 ghost use Rattle.rules.specs.RoomAndSoundLedger.{longestName};
 ghost use Rattle.names.specs.Names.{spelled};
 ghost use Rattle.records.specs.Layout.{placeStart, placeSize};
 ghost use Rattle.records.specs.Rows.{row};
 ghost use Rattle.records.specs.Records.{placeOf};
-ghost use Rattle.room.specs.Contents.{contentsOf, Sized, usedPlaces, liveBookings, placeOfName, placeForName, bookingOfId};
+ghost use Rattle.room.specs.Contents.{contentsOf, usedPlaces, liveBookings, placeOfName, placeForName, bookingOfId, Searchable};
 
 // The name at place i where it stands in the room: its length, and after that its bytes.
 fn name_at(room: &[u8], i: usize) -> &[u8]
@@ -25,7 +24,7 @@ fn name_at(room: &[u8], i: usize) -> &[u8]
 
 // The place of a name, or that it is absent: place by place.
 pub fn find(room: &[u8], part: &[u8]) -> Found
-    requires { ⌜ Sized (now room) × All (λ p. p .name .length ≤ longestName) (usedPlaces (contentsOf (now room))) ⌝ }
+    requires { ⌜ Searchable (now room) ⌝ }
     ensures { λ r. ⌜ r ≡ placeOfName (now (part .entry)) (usedPlaces (contentsOf (now (room .entry)))) ⌝ }
 {
     let sizes = records::load_sizes(room);
@@ -42,7 +41,7 @@ pub fn find(room: &[u8], part: &[u8]) -> Found
 
 // Where a new name goes: behind the names that come before it.
 pub fn place_for(room: &[u8], part: &[u8]) -> usize
-    requires { ⌜ Sized (now room) × All (λ p. p .name .length ≤ longestName) (usedPlaces (contentsOf (now room))) ⌝ }
+    requires { ⌜ Searchable (now room) ⌝ }
     ensures { λ r. ⌜ r ≡ placeForName (now (part .entry)) (usedPlaces (contentsOf (now (room .entry)))) ⌝ }
 {
     let sizes = records::load_sizes(room);
@@ -59,7 +58,7 @@ pub fn place_for(room: &[u8], part: &[u8]) -> usize
 
 // A live booking by its id, by halving: ids ascend.
 pub fn find_booking(room: &[u8], id: u64) -> Found
-    requires { ⌜ Sized (now room) × Pairwise (λ b c. b .id < c .id) (liveBookings (contentsOf (now room))) ⌝ }
+    requires { ⌜ Searchable (now room) ⌝ }
     ensures { λ r. ⌜ r ≡ bookingOfId id (liveBookings (contentsOf (now (room .entry)))) ⌝ }
 {
     let sizes = records::load_sizes(room);

@@ -3,7 +3,7 @@ use mathlib.Core.Path.{_≡_, refl}
 use mathlib.Core.Bool.{true, false}
 use Prim.Native.Nat.{ℕ, suc, _+_, _-_, _^_, _≤_, _<_}
 use native.Mathlib.Omega.{arith}
-use borrow.Author.Tests.{ltb-true, ltb-false, lt-ltb, le-ltb}
+use borrow.Author.Tests.{ltb-true, ltb-false, lt-ltb, le-ltb, le-leb}
 use lib.Dec.{ltb}
 use lib.IntN.{ℤ, pos, negsuc, _-ℤ_}
 use lib.Signed.{ltZ, mag}
@@ -12,6 +12,7 @@ use mir.Val.{toZ, ofZ}
 use mir.Facts.{toZ-ofZ}
 use Rattle.rules.specs.RoomAndSoundLedger.{M}
 use Rattle.rules.specs.AccountRules.{natural}
+use Rattle.rules.specs.Domain.{IsAmount}
 use Rattle.rules.proofs.Tests.{by-test}
 use Rattle.rules.proofs.Delta.{difference}
 use Rattle.numbers.specs.declared.Sum.the-variants.{Fits, AboveM}
@@ -51,6 +52,12 @@ sign-negative (negsuc n) e = refl
 pub sign-natural : (z : ℤ) (n : ℕ) → signOf z ≡ Natural n → z ≡ pos n
 sign-natural (pos m) n e = cc
 sign-natural (negsuc m) n e = absurd (let z : _≡_ {A = ℕ} 0 1 = cc in omega arith)
+
+-- a signed 64-bit number is an amount
+pub amount-fits : (z : ℤ) → mag z < 2 ^ 63 → IsAmount z
+unfolding M
+amount-fits (pos n) h = le-leb n M (omega arith)
+amount-fits (negsuc n) h = le-leb n M (omega arith)
 
 -- ── what code holds: the bits of a signed number, read back ────────────────────────────────────
 

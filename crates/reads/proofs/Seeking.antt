@@ -9,36 +9,24 @@ use borrow.Author.Tests.{lt-ltb, le-ltb}
 use lib.Dec.{eqb}
 use lib.IntN.{pos}
 use lib.ListN.{length}
-use Rattle.rules.specs.Lists.{All}
-use Rattle.rules.specs.RoomAndSoundLedger.{M, Name, Account, Ledger, seatIn, AddsUp, longestName}
+use Rattle.rules.specs.RoomAndSoundLedger.{Name, Account, Ledger, seatIn, longestName}
 use Rattle.rules.specs.AnswerNumbers.{Amount, Reply, MissingTenant, NameTooLong, done, replyOf}
 use Rattle.rules.specs.AccountRules.{Move, refuse, perform, isTooLong, onName, readRule, readReservedRule}
 use Rattle.rules.proofs.Tests.{by-bool, by-test}
 use Rattle.moves.specs.Moves.{accountIn, accountOf, kept, keptSeat, SeatSound}
 use Rattle.moves.specs.declared.Seat.{Seat}
-use Rattle.records.specs.declared.Place.{Place}
-use Rattle.room.specs.Contents.{contentsOf, Sized, usedPlaces, placeOfName}
+use Rattle.room.specs.Contents.{contentsOf, usedPlaces, placeOfName}
+use Rattle.moves.proofs.Cases.{accountIn}
 use Rattle.room.specs.Room.{IsRoom, SoundRoom}
-use Rattle.room.specs.Seats.{FoundIn, seatFound}
+use Rattle.room.specs.Seats.{seatFound}
 use Rattle.room.specs.declared.Found.{Found}
-use Rattle.room.specs.declared.Found.the-variants.{At, Absent}
-use Rattle.room.proofs.Seating.{seat-found, kept-account, kept-limit, seat-sound}
-use Rattle.lookup.proofs.Places.{name-found, noPlace}
-use Rattle.room.proofs.SoundRoom.{places-are, sized, names-short}
+use Rattle.room.proofs.Seating.{seat-found, kept-account, kept-limit, seat-sound, Small, seat-small}
+use Rattle.room.proofs.SoundRoom.{places-are}
 use Rattle.reads.specs.Answers.{sought, accountReply}
 use Rattle.reads.specs.declared.Sought.{Sought}
 use Rattle.reads.specs.declared.Sought.the-variants as found
 
 -- ── the look-up ────────────────────────────────────────────────────────────────────────────────
-
--- what a look-up asks
-pub searchable : (xs : List ℕ) → SoundRoom xs → Sized xs × All (λ p. p .name .length ≤ longestName) (usedPlaces (contentsOf xs))
-searchable xs sound = (sized xs (sound .ledger) (sound .is-room), names-short xs (sound .ledger) (sound .is-room))
-
--- what a look-up answers is in the places
-pub found-in : (a : Name) (ps : List Place) (f : Found) → f ≡ placeOfName a ps → FoundIn f ps
-found-in a ps (At i) e = name-found a noPlace ps i (sym e) .0
-found-in a ps Absent e = tt
 
 module _ (L : Ledger) (a : Name) where
   pub sought-long : longestName < length a → found.NameTooLong ≡ sought L a
@@ -99,21 +87,6 @@ module _ (L : Ledger) (a : Name) where
         subst (λ t. done (Amount (pos (t .reserved)) ∷ []) ≡ perform L a (readReservedRule (accountOf t) (t .limit)) .reply) (sym (seat-of s (sym is ∙ seat))) (kept-reserves (t .account) (t .limit)) ∙ told readReservedRule
 
 -- ── amounts ────────────────────────────────────────────────────────────────────────────────────
-
--- every amount of a seat is at most M
-pub record Small (s : Seat) : Type 0 where
-  pub initial : s .initial ≤ M
-  pub remaining : s .remaining ≤ M
-  pub reserved : s .reserved ≤ M
-  pub committed : s .committed ≤ M
-
-kept-small : (c : Option Account) (l : ℕ) → AddsUp c → Small (kept c l)
-kept-small none l h = record { initial = omega arith; remaining = omega arith; reserved = omega arith; committed = omega arith }
-kept-small (some c) l h = record { initial = h .1; remaining = omega arith; reserved = omega arith; committed = omega arith }
-
-seat-small : (s : Seat) → SeatSound s → Small s
-unfolding keptSeat
-seat-small s known = subst Small (known .form) (kept-small (accountOf s) (s .limit) (known .adds-up))
 
 pub sought-small : (xs : List ℕ) (a : Name) (s : Seat) (q : Sought) → SoundRoom xs → ((L : Ledger) → IsRoom xs L → q ≡ sought L a) → q ≡ found.Seat s → Small s
 sought-small xs a s q sound is seat =

@@ -69,7 +69,8 @@ fields-read from (k ∷ ks) (v ∷ vs) xs rest (h, h′) e =
     let d : drop (from + k) xs ≡ fieldBytes ks vs ++ rest = sym (drop-drop k from xs) ∙ ap (drop k) f ∙ drop-at w (fieldBytes ks vs ++ rest) k (little-length k v) in
     ap₂ (λ n ns. n ∷ ns) (ap littleNumber r ∙ little-number k v h) (fields-read (from + k) ks vs xs rest h′ d)
 
-row-bytes : (k b : ℕ) (xs : List ℕ) → All IsByte xs → All IsByte (row k b xs)
+-- a row of bytes
+pub row-bytes : (k b : ℕ) (xs : List ℕ) → All IsByte xs → All IsByte (row k b xs)
 row-bytes k b xs h = all-take IsByte k (drop b xs) (all-drop IsByte b xs h)
 
 -- what was read is what stood there

@@ -28,6 +28,11 @@ row-front k zero xs = rw zero-add
 row-front k (suc b) [] = rw (suc-add, take-nil)
 row-front k (suc b) (x ∷ xs) = rw suc-add (row-front k b xs)
 
+-- a row of a row, in the list that the row is of
+pub row-within : (j m k b : ℕ) (xs : List ℕ) → m + j ≤ k → row j m (row k b xs) ≡ row j (b + m) xs
+row-within j m k b xs h =
+    row-front j m (row k b xs) ∙ ap (drop m) (take-take (m + j) k (drop b xs) h) ∙ sym (row-front j m (drop b xs)) ∙ ap (take j) (drop-drop m b xs)
+
 -- what is put further on, seen from m on
 pub put-later : (m b k : ℕ) (xs w : List ℕ) → m + b ≤ length xs → drop m (put (m + b) k xs w) ≡ put b k (drop m xs) w
 put-later m b k xs w h =

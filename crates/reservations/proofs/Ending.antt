@@ -25,7 +25,7 @@ use Rattle.records.specs.declared.Sizes.{Sizes}
 use Rattle.records.specs.Rows.{row}
 use Rattle.records.specs.Records.{sizesOf, bookingOf}
 use Rattle.room.specs.Contents.{contentsOf, Sized, baseOf, usedPlaces, liveBookings, bookingOfId, placeOfName, removedBooking}
-use Rattle.room.specs.Room.{placeRecord, placeNumber, bookingRecord, contentsIn, IsRoom, Performed}
+use Rattle.room.specs.Room.{placeRecord, placeNumber, bookingRecord, contentsIn, IsRoom, Performed, SoundRoom, OfRoom}
 use Rattle.room.specs.Seats.{seatFound, withSeat}
 use Rattle.room.specs.declared.Found.{Found}
 use Rattle.room.specs.declared.Found.the-variants.{At, Absent}
@@ -150,6 +150,9 @@ module _ (xs : List ℕ) (L : Ledger) (room : IsRoom xs L) where
   pub gone : (id : ℕ) (f : Found) → f ≡ bookingOfId id (liveBookings (contentsOf xs)) → f ≡ Absent → booked id bs ≡ none
   gone id f e q = found-gone id _ (booking-found ps id bs (room .sound .ids-ascend)) (sym (searched-is id) ∙ sym e ∙ q)
 
+  pub live-below : (id j : ℕ) → Live L id j → j < contentsOf xs .sizes .live
+  live-below id j l = omega (arith, l .below, live-is)
+
   -- ── its settlement ───────────────────────────────────────────────────────────────────────────
 
   module _ (x : AccountOperation ℕ) (id : ℕ) (rule : Option ℕ → Option Account → ℕ → Settlement) (settles : operate L x ≡ onBooking L (booked id bs) rule) where
@@ -174,9 +177,6 @@ module _ (xs : List ℕ) (L : Ledger) (room : IsRoom xs L) where
           fits = subst SettlementFits (sym is) (well (c .amount) (own .account) (own .limit) (seatIn-all (λ t. AddsUp (t .account)) ps tt (room .sound .accounts-add-up) (c .name)));
         }
 
-  pub live-below : (id j : ℕ) → Live L id j → j < contentsOf xs .sizes .live
-  live-below id j l = omega (arith, l .below, live-is)
-
   module _ (x : AccountOperation ℕ) (id j : ℕ) (d : Due) where
     -- what the end of the reservation asks
     pub end-allowed : (decided : Settlement) → Settled L x id j d decided → Sized xs × (d .owner < contentsOf xs .sizes .used) × (j < contentsOf xs .sizes .live)
@@ -199,3 +199,23 @@ module _ (xs : List ℕ) (L : Ledger) (room : IsRoom xs L) where
         becomes x L xs room fit r (doneWith zs) (withBookings (withPlaces L (seated (c .name) (meaning s) ps)) (ended (c .id) bs)) (m .move) q refl refl ys l
         (k ∙ ap₂ (λ i t. removedBooking j (withSeat i s t)) n (room .holds)
         ∙ ended-contents L (room .sound) (c .name) s known (m .fits) (owner-holds j (found .below)) (c .id) j (found .below) (ap (λ i. ended i bs) same ∙ found .closes))
+
+-- ── what follows from a booking that was found ─────────────────────────────────────────────────
+
+pub record FoundBooking (xs : List ℕ) (id j : ℕ) : Type 0 where
+  -- it is live, whichever ledger the room is of
+  pub is-live : OfRoom xs (λ L. Live L id j)
+  -- so what is due of it may be read (`due_at`)
+  pub readable : SoundRoom xs × (j < contentsOf xs .sizes .live)
+  -- and what was read may be settled (`moves::commit`, `moves::release`)
+  pub allowed : (d : Due) → OfRoom xs (λ L. d ≡ dueAt L j) → SeatSound (d .seat) × (d .amount ≤ d .seat .reserved)
+
+pub found-booking : (xs : List ℕ) → SoundRoom xs → (id j : ℕ) (f : Found) → f ≡ bookingOfId id (liveBookings (contentsOf xs)) → f ≡ At j → FoundBooking xs id j
+found-booking xs sound id j f e q =
+    let L = sound .ledger in
+    let room = sound .is-room in
+    record {
+      is-live = λ K k. live xs K k id j f e q;
+      readable = (sound, live-below xs L room id j (live xs L room id j f e q));
+      allowed = λ d due. due-allowed xs L room j (live xs L room id j f e q .below) d (due L room);
+    }

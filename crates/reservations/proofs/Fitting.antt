@@ -1,5 +1,5 @@
 -- What a reserve, a commit and a release carry is at most M; a seat that they write is not vacant.
-use mathlib.Core.Path.{_≡_, refl, subst}
+use mathlib.Core.Path.{_≡_, refl}
 use mathlib.Core.Bool.{Bool, true, false, _&&_}
 use mathlib.Core.Option.{Option, none, some}
 use Prim.Native.Nat.{ℕ, zero, suc, _+_, _≤_}
@@ -13,8 +13,6 @@ use Rattle.rules.specs.RoomAndSoundLedger.{M, Account, isVacant, hasAccount, Ad
 use Rattle.rules.specs.AnswerNumbers.{Value, Amount, Identifier, Version, Fence, Count, Field, YesOrNo, TheName, SnapshotBytes, Refusal, replyOf}
 use Rattle.rules.specs.AccountRules.{Move, refuse, tell, write, lose, book, Settlement, leave, end, natural, reserveRule, commitRule, releaseRule}
 use Rattle.rules.proofs.Tests.{by-test}
-use Rattle.moves.specs.Moves.{accountOf, kept, keptSeat, SeatSound}
-use Rattle.moves.specs.declared.Seat.{Seat}
 
 abbrev SmallValue : Value → Type 0
 SmallValue (Amount z) = natural z ≤ M
@@ -65,13 +63,3 @@ pub release-fits : (amount : ℕ) (c : Option Account) (l : ℕ) → SettlementF
 unfolding releaseRule
 release-fits amount none l = tt
 release-fits amount (some c) l = refl
-
--- ── a sound seat ───────────────────────────────────────────────────────────────────────────────
-
-kept-small : (c : Option Account) (l : ℕ) → AddsUp c → (kept c l .remaining ≤ M) × (kept c l .reserved ≤ M)
-kept-small none l adds = (omega arith, omega arith)
-kept-small (some c) l (e, m) = (omega arith, omega arith)
-
-pub seat-small : (s : Seat) → SeatSound s → (s .remaining ≤ M) × (s .reserved ≤ M)
-unfolding keptSeat
-seat-small s sound = subst (λ (t : Seat). (t .remaining ≤ M) × (t .reserved ≤ M)) (sound .form) (kept-small (accountOf s) (s .limit) (sound .adds-up))

@@ -1,25 +1,16 @@
 -- What an operation promises, from its outcome: a refusal changes nothing; else the room is that of the ledger after it.
 use mathlib.Core.Path.{_≡_, sym, _∙_, ap, subst}
 use mathlib.Core.List.{List}
-use Prim.Native.Nat.{ℕ, _^_, _<_}
+use Prim.Native.Nat.{ℕ}
 use native.Mathlib.Omega.{arith}
-use borrow.Author.Tests.{le-leb}
-use lib.IntN.{ℤ, pos, negsuc}
-use lib.Signed.{mag}
 use lib.ListN.{length}
-use Rattle.rules.specs.RoomAndSoundLedger.{M, Ledger, Sound}
+use Rattle.rules.specs.RoomAndSoundLedger.{Ledger, Sound}
 use Rattle.rules.specs.AnswerNumbers.{Reply, Outcome, outcome}
 use Rattle.rules.specs.AccountRules.{AccountOperation, operate}
-use Rattle.rules.specs.Domain.{IsAmount, AccountOperationFits}
+use Rattle.rules.specs.Domain.{AccountOperationFits}
 use Rattle.rules.proofs.Soundness.{operate-sound}
 use Rattle.room.specs.Contents.{contentsOf}
 use Rattle.room.specs.Room.{contentsIn, IsRoom, Performed}
-
--- an amount is a signed 64-bit number
-pub amount-fits : (z : ℤ) → mag z < 2 ^ 63 → IsAmount z
-unfolding M
-amount-fits (pos n) h = le-leb n M (omega arith)
-amount-fits (negsuc n) h = le-leb n M (omega arith)
 
 module _ (x : AccountOperation ℕ) (L : Ledger) (xs : List ℕ) (room : IsRoom xs L) where
   pub stays : (r s : Reply) → operate L x ≡ outcome s L → r ≡ s → Performed (λ K. operate K x) L r xs

@@ -23,25 +23,19 @@ use Rattle.records.specs.Records.{headOf}
 use Rattle.heads.specs.Heads.{afterDraw}
 use Rattle.room.specs.Contents.{contentsOf, usedPlaces, placeOfName, withHead, appendedBooking}
 use Rattle.room.specs.Room.{placeNumber, headIn, contentsIn, IsRoom, Performed}
-use Rattle.room.specs.Seats.{FoundIn, seatFound, withSeat}
+use Rattle.room.specs.Seats.{seatFound, withSeat}
 use Rattle.room.specs.declared.Found.{Found}
 use Rattle.room.specs.declared.Found.the-variants.{At, Absent}
 use Rattle.room.proofs.Numbers.{found-number, number-below}
 use Rattle.room.proofs.Steps.{id-drawn}
 use Rattle.room.proofs.Seating.{seat-found, kept-account, kept-limit, seat-sound}
 use Rattle.room.proofs.Settling.{booked-contents}
-use Rattle.lookup.proofs.Places.{noPlace, name-found}
 use Rattle.room.proofs.SoundRoom.{head-is, places-are}
 use Rattle.reservations.specs.Answers.{reservedReply}
 use Rattle.reservations.specs.Steps.{Booked, granted, full}
 use Rattle.reservations.specs.declared.Reserved.{Reserved}
 use Rattle.reservations.proofs.Fitting.{MoveFits, reserve-fits}
 use Rattle.reservations.proofs.Performing.{stays, becomes}
-
--- what a look-up answers about the places that it searched
-pub found-in : (a : Name) (ps : List Place) (f : Found) → f ≡ placeOfName a ps → FoundIn f ps
-found-in a ps (At i) e = name-found a noPlace ps i (sym e) .0
-found-in a ps Absent e = tt
 
 -- what a reserve is decided to be: the ledger's operation is that move
 pub record Decided (L : Ledger) (a : Name) (z : ℤ) (r : Reserving) : Type 0 where

@@ -4,16 +4,16 @@ use mathlib.Core.List.{List, []}
 use Prim.Native.Nat.{ℕ, _+_, _*_, _≤_, _<_}
 use native.Mathlib.Omega.{arith}
 use lib.ListN.{length, take, drop, getD}
-use lib.Seq.{drop-cons, drop-drop, take-take, getD-take, length-take-le}
+use lib.Seq.{drop-cons, take-take, getD-take, length-take-le}
 use Rattle.rules.specs.Lists.{All}
 use Rattle.rules.specs.RoomAndSoundLedger.{longestName}
 use Rattle.numbers.specs.LittleEndian.{littleNumber}
-use Rattle.names.specs.Names.{spelled}
+use Rattle.names.specs.Names.{spelled, IsStored}
 use Rattle.records.specs.declared.Place.{Place}
 use Rattle.records.specs.declared.Booking.{Booking}
 use Rattle.records.specs.Rows.{row, table}
 use Rattle.records.specs.Records.{sizesOf, placeOf, bookingOf}
-use Rattle.records.proofs.Rows.{row-front, table-length, table-at}
+use Rattle.records.proofs.Rows.{row-within, table-length, table-at}
 use Rattle.room.specs.Contents.{contentsOf, baseOf, Sized, usedPlaces, liveBookings}
 use Rattle.rules.proofs.ByIndex.{any-default, all-read}
 use Rattle.records.specs.Layout.{placeStart, nameStart, placeSize, bookingSize, headSize, nameBytesOffset, nameOffset}
@@ -54,18 +54,13 @@ module _ (xs : List ℕ) (s : Sized xs) where
   loaded-name i d h = ap (λ p. spelled (p .name)) (loaded-place i d h)
 
   -- what `name_at` asks of a place in use
-  pub name-in-room : (i : ℕ) → All (λ p. p .name .length ≤ longestName) (usedPlaces (contentsOf xs)) → i < sizesOf xs .used
+  pub name-in-room : (i : ℕ) → All (λ p. IsStored (p .name)) (usedPlaces (contentsOf xs)) → i < sizesOf xs .used
       → (placeStart i + placeSize ≤ length xs) × (placeOf (row placeSize (placeStart i) xs) .name .length ≤ longestName)
-  name-in-room i short h =
-      let at : getD (usedPlaces (contentsOf xs)) i (placeOf []) .name .length ≤ longestName = all-read (λ p. p .name .length ≤ longestName) (placeOf []) (usedPlaces (contentsOf xs)) i short (omega (arith, used-places)) in
-      (omega (arith, s), omega (arith, ap (λ p. p .name .length) (loaded-place i (placeOf []) h)))
+  name-in-room i stored h =
+      let at = all-read (λ p. IsStored (p .name)) (placeOf []) (usedPlaces (contentsOf xs)) i stored (omega (arith, used-places)) in
+      (omega (arith, s), omega (arith, at .fits, ap (λ p. p .name .length) (loaded-place i (placeOf []) h)))
 
 -- ── a name where it stands ─────────────────────────────────────────────────────────────────────
-
--- a part of a row, in the list that the row is of
-row-within : (j m k b : ℕ) (xs : List ℕ) → m + j ≤ k → row j m (row k b xs) ≡ row j (b + m) xs
-row-within j m k b xs h =
-    row-front j m (row k b xs) ∙ ap (drop m) (take-take (m + j) k (drop b xs) h) ∙ sym (row-front j m (drop b xs)) ∙ ap (take j) (drop-drop m b xs)
 
 one-byte : (at : ℕ) (xs : List ℕ) → at < length xs → littleNumber (row 1 at xs) ≡ getD xs at 0
 unfolding littleNumber

@@ -3,18 +3,18 @@
 use mathlib.Core.Path.{_≡_, refl, sym, _∙_, ap, ap₂, subst}
 use mathlib.Core.Bool.{true, false, not, cond, _||_}
 use mathlib.Core.List.{List, [], _∷_, map}
-use mathlib.Core.Option.{none, some}
+use mathlib.Core.Option.{Option, none, some}
 use Prim.Native.Nat.{ℕ, suc, _≤_, _<_}
 use native.Mathlib.Omega.{arith}
 use lib.ListN.{length, getD, List·getD-map, length-map}
 use Rattle.rules.specs.Lists.{first, any}
-use Rattle.rules.specs.RoomAndSoundLedger.{M, Name, same, Seat as RulesSeat, seat, Place as RulesPlace, place, Ledger, isVacant, withPlaces, isAt, seatOf, holdsPlace, seatIn, hasAccount, AddsUp, Sound}
+use Rattle.rules.specs.RoomAndSoundLedger.{M, Name, same, Seat as RulesSeat, seat, Place as RulesPlace, place, Ledger, isVacant, withPlaces, isAt, seatOf, holdsPlace, seatIn, hasAccount, AddsUp, Sound, Account}
 use Rattle.rules.specs.AccountRules.{put, freed, seated}
 use Rattle.rules.proofs.Tests.{by-bool, true-false}
 use Rattle.rules.proofs.Lists.{first-any, all-map, none-any, keep-all}
 use Rattle.rules.proofs.Names.{other}
 use Rattle.rules.proofs.Places.{seatIn-all}
-use Rattle.moves.specs.Moves.{accountOf, meaning, keptSeat, SeatSound}
+use Rattle.moves.specs.Moves.{accountOf, meaning, keptSeat, SeatSound, kept}
 use Rattle.moves.specs.declared.Seat.{Seat}
 use Rattle.room.specs.Contents.{Contents, emptyPlace, placeOfName, placeForName, withPlace, insertedPlace, freedPlace}
 use Rattle.room.specs.Room.{placeWith, placeRecord, placeNumber, contentsIn}
@@ -74,6 +74,21 @@ kept-sound s adds small = record {
   adds-up = subst AddsUp (sym (kept-account s)) adds;
   limit = rw (kept-limit s) small;
 }
+
+-- every amount of a sound seat is at most M: without an account they are 0
+pub record Small (s : Seat) : Type 0 where
+  pub initial : s .initial ≤ M
+  pub remaining : s .remaining ≤ M
+  pub reserved : s .reserved ≤ M
+  pub committed : s .committed ≤ M
+
+kept-small : (c : Option Account) (l : ℕ) → AddsUp c → Small (kept c l)
+kept-small none l h = record { initial = omega arith; remaining = omega arith; reserved = omega arith; committed = omega arith }
+kept-small (some c) l h = record { initial = h .1; remaining = omega arith; reserved = omega arith; committed = omega arith }
+
+pub seat-small : (s : Seat) → SeatSound s → Small s
+unfolding keptSeat
+seat-small s known = subst Small (known .form) (kept-small (accountOf s) (s .limit) (known .adds-up))
 
 module _ (L : Ledger) (sound : Sound L) (a : Name) where
   abbrev ps : List RulesPlace

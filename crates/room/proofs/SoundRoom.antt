@@ -1,17 +1,29 @@
--- The room of a sound ledger is all that the look-ups ask for, and what they search are the ledger's own places and bookings.
+-- The room of a sound ledger is all that the look-ups ask for, and what they search are the ledger's own places and bookings: each field is read off the
+-- contents that such a room holds, and what the ledger's places keep to, their records keep to.
 use mathlib.Core.Path.{_≡_, ap, _∙_}
 use mathlib.Core.List.{List, map}
-use Prim.Native.Nat.{ℕ, _≤_, _<_}
+use Prim.Native.Nat.{ℕ, _<_}
 use native.Mathlib.Omega.{arith}
 use lib.ListN.{length, length-map}
 use lib.Seq.{take-at}
 use Rattle.rules.specs.Lists.{All, Pairwise}
-use Rattle.rules.specs.RoomAndSoundLedger.{IsName, Ledger, longestName}
+use Rattle.rules.specs.RoomAndSoundLedger.{IsName, Place, Ledger, Before}
 use Rattle.rules.proofs.Lists.{all-map}
-use Rattle.rules.proofs.Keys.{all-images, pairwise-images}
+use Rattle.rules.proofs.Keys.{pairwise-map, all-images, pairwise-images}
+use Rattle.names.specs.Names.{IsStored}
+use Rattle.names.proofs.Storing.{spelled-stored, stored-is-stored}
 use Rattle.records.specs.Records.{headOf, sizesOf}
-use Rattle.room.specs.Contents.{contentsOf, Sized, usedPlaces, liveBookings}
-use Rattle.room.specs.Room.{placeRecord, bookingRecord, filled, headIn, sizesIn, contentsIn, IsRoom}
+use Rattle.room.specs.Contents.{contentsOf, Sized, usedPlaces, liveBookings, NameBefore, Searchable}
+use Rattle.room.specs.Room.{placeRecord, bookingRecord, filled, headIn, sizesIn, contentsIn, IsRoom, SoundRoom}
+
+-- the record of a place has its name in the stored form, and two records stand in the order of their places
+record-stored : (p : Place) → IsName (p .name) → IsStored (placeRecord p .name)
+unfolding placeRecord
+record-stored p h = stored-is-stored (p .name) (h .fits)
+
+pub record-before : (p q : Place) → Before p q → NameBefore (placeRecord p) (placeRecord q)
+unfolding placeRecord
+record-before p q e = rw (spelled-stored (p .name), spelled-stored (q .name)) e
 
 module _ (xs : List ℕ) (L : Ledger) (room : IsRoom xs L) where
   pub sizes-are : sizesOf xs ≡ sizesIn L
@@ -45,11 +57,21 @@ module _ (xs : List ℕ) (L : Ledger) (room : IsRoom xs L) where
         live = omega (arith, sound .reservations-fit);
       }
 
-  pub names-short : All (λ p. p .name .length ≤ longestName) (usedPlaces (contentsOf xs))
-  unfolding placeRecord
-  names-short =
+  pub names-stored : All (λ p. IsStored (p .name)) (usedPlaces (contentsOf xs))
+  names-stored =
       rw places-are
-      (all-images placeRecord (λ p. p .name .length ≤ longestName) (L .places) (all-map (λ p. IsName (p .name)) (λ p. length (p .name) ≤ longestName) (λ p h. h .fits) (L .places) (room .sound .are-names)))
+      (all-images placeRecord (λ p. IsStored (p .name)) (L .places)
+      (all-map (λ p. IsName (p .name)) (λ p. IsStored (placeRecord p .name)) (λ p h. record-stored p h) (L .places) (room .sound .are-names)))
 
-  pub ids-ascend : Pairwise (λ b c. b .id < c .id) (liveBookings (contentsOf xs))
+  names-ascend : Pairwise NameBefore (usedPlaces (contentsOf xs))
+  names-ascend = rw places-are (pairwise-images placeRecord NameBefore (L .places) (pairwise-map Before _ record-before (L .places) (room .sound .names-ascend)))
+
+  ids-ascend : Pairwise (λ b c. b .id < c .id) (liveBookings (contentsOf xs))
   ids-ascend = rw bookings-are (pairwise-images (bookingRecord (L .places)) (λ b c. b .id < c .id) (L .bookings) (room .sound .ids-ascend))
+
+-- every sound room is all that a look-up asks for
+pub searchable : (xs : List ℕ) → SoundRoom xs → Searchable xs
+searchable xs room =
+    let L = room .ledger in
+    let is = room .is-room in
+    record { sized = sized xs L is; names-stored = names-stored xs L is; names-ascend = names-ascend xs L is; ids-ascend = ids-ascend xs L is }

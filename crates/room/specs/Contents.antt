@@ -2,11 +2,12 @@
 use mathlib.Core.Path.{_≡_}
 use mathlib.Core.Bool.{cond}
 use mathlib.Core.List.{List, [], _∷_, _++_, map}
-use Prim.Native.Nat.{ℕ, suc, pred, _+_, _*_, _≤_, Ordering, Ordering·lt, Ordering·eq, Ordering·gt}
+use Prim.Native.Nat.{ℕ, suc, pred, _+_, _*_, _≤_, Ordering, Ordering·lt, Ordering·eq, Ordering·gt, _<_}
 use lib.Dec.{leb, ltb, eqb}
 use lib.ListN.{length, take, drop, set}
 use Rattle.rules.specs.RoomAndSoundLedger.{Name, order, same, mostNames, mostReservations}
-use Rattle.names.specs.Names.{spelled, stored}
+use Rattle.rules.specs.Lists.{All, Pairwise}
+use Rattle.names.specs.Names.{spelled, stored, IsStored}
 use Rattle.records.specs.Layout.{placeStart, bookingSize}
 use Rattle.records.specs.Records.{sizesOf, headOf, places, bookings}
 use Rattle.records.specs.declared.Place.{Place}
@@ -50,6 +51,17 @@ usedPlaces c = take (c .sizes .used) (c .places)
 
 abbrev pub liveBookings : Contents → List Booking
 liveBookings c = take (c .sizes .live) (c .bookings)
+
+-- the names that two places spell stand in this order
+abbrev pub NameBefore : Place → Place → Type 0
+NameBefore p q = order (spelled (p .name)) (spelled (q .name)) ≡ Ordering·lt
+
+-- what a look-up asks of a room, and all that it may lean on: the tables lie within it, names are in their stored form and ascend, ids ascend
+pub record Searchable (xs : List ℕ) : Type 0 where
+  pub sized : Sized xs
+  pub names-stored : All (λ p. IsStored (p .name)) (usedPlaces (contentsOf xs))
+  pub names-ascend : Pairwise NameBefore (usedPlaces (contentsOf xs))
+  pub ids-ascend : Pairwise (λ b c. b .id < c .id) (liveBookings (contentsOf xs))
 
 abbrev pub later : Found → Found
 later (At i) = At (suc i)

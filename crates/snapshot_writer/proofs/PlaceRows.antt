@@ -27,7 +27,7 @@ use Rattle.room.specs.Contents.{contentsOf, usedPlaces}
 use Rattle.room.specs.Room.{placeWith, placeRecord, IsRoom}
 use Rattle.rules.proofs.ByIndex.{all-read}
 use Rattle.room.proofs.InRoom.{used-places, loaded-place, name-in-room}
-use Rattle.room.proofs.SoundRoom.{places-are, sized, names-short}
+use Rattle.room.proofs.SoundRoom.{places-are, sized, names-stored}
 use Rattle.snapshot_writer.specs.Rows.{rowInPlace, WritesRows}
 use Rattle.rules.proofs.Lists.{flatMap-append, flatMap-one}
 use Rattle.snapshot_writer.specs.Output.{rowOfPlace, rowSize}
@@ -120,7 +120,7 @@ module _ (xs : List ℕ) (L : Ledger) (room : IsRoom xs L) where
 
     -- what `load_place` asks, and what `append_account` asks of what it gives
     pub place-in-room : (56 + 66 * i + 66 ≤ length xs) × (loaded i .name .length ≤ 24)
-    place-in-room = name-in-room xs (sized xs L room) i (names-short xs L room) h
+    place-in-room = name-in-room xs (sized xs L room) i (names-stored xs L room) h
 
     pub rows-next : rowsTo xs (i + 1) ≡ rowsTo xs i ++ rowOfPlace (loaded i)
     rows-next =

@@ -11,7 +11,7 @@ use Rattle.moves.specs.Moves.{accountOf, meaning, kept, keptSeat}
 use Rattle.moves.specs.declared.Seat.{Seat}
 use Rattle.records.specs.declared.Place.{Place}
 use Rattle.room.specs.Room.{placeRecord}
-use Rattle.room.proofs.Decoding.{placeIn}
+use Rattle.room.proofs.Decoding.{kept-meaning, placeIn}
 use Rattle.soundness.specs.Facts.{seatAt, PlaceSound}
 
 -- what an account has reserved; without one, nothing
@@ -26,10 +26,6 @@ kept-reserved (some c) l = refl
 kept-committed : (c : Option Account) (l : ℕ) → kept c l .committed ≡ committedOf c
 kept-committed none l = refl
 kept-committed (some c) l = refl
-
-kept-meaning : (c : Option Account) (l : ℕ) → meaning (kept c l) ≡ seat c l
-kept-meaning none l = refl
-kept-meaning (some c) l = refl
 
 -- ── a record that is in its one form ───────────────────────────────────────────────────────────
 

@@ -1,16 +1,16 @@
 -- A place's number and its name say the same where names ascend strictly: a place is found by its name at its own number, two places have one name
 -- just where they have one number, and so what the bookings reserve for a number is what they reserve for its name.
-use mathlib.Core.Path.{_≡_, refl, sym, _∙_, ap}
-use mathlib.Core.Bool.{true, false, cond, _||_}
+use mathlib.Core.Path.{_≡_, sym, _∙_, ap}
+use mathlib.Core.Bool.{false, cond}
 use mathlib.Core.List.{List, [], _∷_, map}
 use Prim.Native.Nat.{ℕ, zero, suc, _<_, Ordering·lt}
 use native.Mathlib.Omega.{arith}
 use borrow.Author.Tests.{eqb-true, eqb-false}
 use lib.Dec.{eqb}
 use lib.ListN.{length, getD}
-use Rattle.rules.specs.Lists.{any, sum, All, Pairwise}
-use Rattle.rules.specs.RoomAndSoundLedger.{Name, order, same, Place, isAt, holdsPlace, share, reservedFor, Before}
-use Rattle.rules.proofs.Tests.{by-bool, true-false}
+use Rattle.rules.specs.Lists.{sum, All, Pairwise}
+use Rattle.rules.specs.RoomAndSoundLedger.{Name, order, same, Place, share, reservedFor, Before}
+use Rattle.rules.proofs.Tests.{by-bool}
 use Rattle.rules.proofs.Lists.{all-map}
 use Rattle.rules.proofs.Names.{same-self, same-false, other, lt-other}
 use Rattle.rules.proofs.Places.{Over}
@@ -35,13 +35,6 @@ number-at (p ∷ ps) zero (h, k) l = rw (same-self (p .name))
 number-at (p ∷ ps) (suc i) (h, k) l =
     let n : same (nameAt ps i) (p .name) ≡ false = later-other (p .name) (nameAt ps i) (at-index (Over (p .name)) ps i nowhere h (omega arith)) in
     rw n (ap suc (number-at ps i k (omega arith)))
-
--- a name that holds a place has the number of one
-pub number-below : (a : Name) (ps : List Place) → holdsPlace a ps ≡ true → placeNumber a ps < length ps
-unfolding holdsPlace any placeNumber
-number-below a [] h = true-false h refl
-number-below a (p ∷ ps) h = by-bool (λ b. b || any (isAt a) ps ≡ true → cond b 0 (suc (placeNumber a ps)) < suc (length ps)) (isAt a p)
-    (λ _ h. omega arith) (λ _ h. omega (arith, number-below a ps h)) h
 
 module _ (ps : List Place) (ascend : Pairwise Before ps) (i : ℕ) (within : i < length ps) where
   -- a name is another's just where its number is

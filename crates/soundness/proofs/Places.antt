@@ -12,7 +12,8 @@ use Rattle.rules.proofs.Names.{order-trans}
 use Rattle.names.specs.Names.{spelled}
 use Rattle.records.specs.Layout.{placeSize, headSize}
 use Rattle.records.specs.Records.{placeOf, places}
-use Rattle.soundness.specs.Facts.{NameBefore, PlaceSound, PlacesSound}
+use Rattle.room.specs.Contents.{NameBefore}
+use Rattle.soundness.specs.Facts.{PlaceSound, PlacesSound}
 use Rattle.soundness.specs.Steps.{placeAt, NameFollows, Noted}
 use Rattle.soundness.proofs.Tables.{table-more, table-all, table-pairs}
 

@@ -15,27 +15,23 @@ use Rattle.rules.proofs.Keys.{all-images, pairwise-map, pairwise-images}
 use Rattle.rules.proofs.Places.{all-found, account-holds}
 use Rattle.rules.proofs.Bookings.{IdBelow}
 use Rattle.rules.proofs.SoundByName.{AccountSound, by-name}
-use Rattle.names.proofs.Storing.{spelled-stored}
 use Rattle.records.specs.declared.Place.{Place}
 use Rattle.records.specs.declared.Booking.{Booking}
-use Rattle.room.specs.Contents.{Contents, contentsOf, roomSize, emptyPlace, emptyBooking}
+use Rattle.room.specs.Contents.{Contents, contentsOf, roomSize, emptyPlace, emptyBooking, NameBefore}
 use Rattle.room.specs.Room.{placeRecord, bookingRecord, filled, sizesIn, headIn, contentsIn, IsRoom, SoundRoom}
 use Rattle.room.proofs.Filled.{used-part}
 use Rattle.room.proofs.Decoding.{nowhere, bookingIn, number-name}
-use Rattle.soundness.specs.Facts.{SizesSound, HeadSound, PlaceSound, NameBefore, PlacesSound, BookingSound, BookingsSound, ReservedIsSum, TablesSound, RoomFacts}
+use Rattle.room.proofs.Numbers.{number-below}
+use Rattle.room.proofs.SoundRoom.{record-before}
+use Rattle.soundness.specs.Facts.{SizesSound, HeadSound, PlaceSound, PlacesSound, BookingSound, BookingsSound, ReservedIsSum, TablesSound, RoomFacts}
 use Rattle.soundness.proofs.Indices.{at-index, at-indices, sum-images, at-mapped, map-back}
-use Rattle.soundness.proofs.Owners.{number-below, reserved-at}
+use Rattle.soundness.proofs.Owners.{reserved-at}
 use Rattle.soundness.proofs.Kept.{reservedOf, place-sound, place-reserved, place-committed}
 
 -- the entries not in use
 unused-part : {A B : Type 0} (f : A → B) (xs : List A) (n : ℕ) (empty : B) → drop (length xs) (filled n empty (map f xs)) ≡ replicate (n - length xs) empty
 unfolding filled
 unused-part f xs n empty = drop-at (map f xs) (replicate (n - length (map f xs)) empty) (length xs) (length-map xs f) ∙ ap (λ k. replicate (n - k) empty) (length-map xs f)
-
--- the records of places stand in the order of the names that they spell
-record-before : (p q : RulesPlace) → Before p q → NameBefore (placeRecord p) (placeRecord q)
-unfolding placeRecord
-record-before p q e = rw (spelled-stored (p .name), spelled-stored (q .name)) e
 
 account-reserves : (total : ℕ) (o : Option Account) → AccountSound total o → reservedOf o ≡ total
 account-reserves total none e = sym e

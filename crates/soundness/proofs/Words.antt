@@ -18,10 +18,10 @@ use Rattle.names.specs.declared.Name.{Name}
 use Rattle.names.specs.Names.{spelled, IsStored}
 use Rattle.records.specs.Rows.{row}
 use Rattle.records.proofs.Rows.{row-length}
+use Rattle.records.proofs.Fields.{row-bytes}
 use Rattle.soundness.specs.Facts.{Decides}
 use Rattle.soundness.proofs.Deciding.{less-or-not, by-less, by-answer}
 use Rattle.soundness.proofs.ClearBytes.{ClearFrom}
-use Rattle.soundness.proofs.NameBytes.{row-of-bytes}
 
 -- ── numbers and order ──────────────────────────────────────────────────────────────────────────
 
@@ -75,12 +75,12 @@ module _ (k j : ℕ) (xs ys : List ℕ) (bx : All IsByte xs) (by : All IsByte ys
   pub part-order : numberOf (row k j xs) < numberOf (row k j ys) → order xs ys ≡ Ordering·lt
   part-order h =
       order-rest j xs ys alike (order-front k (drop j xs) (drop j ys) (rw length-drop (omega arith))
-      (number-order (row k j xs) (row k j ys) 0 same-width (row-of-bytes k j xs bx) (row-of-bytes k j ys by) h))
+      (number-order (row k j xs) (row k j ys) 0 same-width (row-bytes k j xs bx) (row-bytes k j ys by) h))
 
   pub part-same : numberOf (row k j xs) ≡ numberOf (row k j ys) → take (j + k) xs ≡ take (j + k) ys
   part-same h =
       let e : row k j xs ≡ row k j ys =
-      sym (bytes-of-number (row k j xs) (row-of-bytes k j xs bx)) ∙ ap₂ bytesOf same-width h ∙ bytes-of-number (row k j ys) (row-of-bytes k j ys by) in
+      sym (bytes-of-number (row k j xs) (row-bytes k j xs bx)) ∙ ap₂ bytesOf same-width h ∙ bytes-of-number (row k j ys) (row-bytes k j ys by) in
       take-add j k xs ∙ ap₂ _++_ alike e ∙ sym (take-add j k ys)
 
 -- ── lengths and order ──────────────────────────────────────────────────────────────────────────

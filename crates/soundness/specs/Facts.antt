@@ -3,12 +3,12 @@ use mathlib.Core.Path.{_≡_}
 use mathlib.Core.Logic.{_⊎_, _≢_}
 use mathlib.Core.Bool.{Bool, true, false, cond}
 use mathlib.Core.List.{List}
-use Prim.Native.Nat.{ℕ, _-_, _≤_, _<_, Ordering·lt}
+use Prim.Native.Nat.{ℕ, _-_, _≤_, _<_}
 use lib.Dec.{eqb}
 use lib.ListN.{length, getD, drop, replicate}
 use Rattle.rules.specs.Lists.{sum, All, Pairwise}
-use Rattle.rules.specs.RoomAndSoundLedger.{M, order, isVacant, InRange, hasTag, fenceOf, mostNames, mostReservations}
-use Rattle.names.specs.Names.{spelled, IsStored}
+use Rattle.rules.specs.RoomAndSoundLedger.{M, isVacant, InRange, hasTag, fenceOf, mostNames, mostReservations}
+use Rattle.names.specs.Names.{IsStored}
 use Rattle.moves.specs.Moves.{meaning, SeatSound}
 use Rattle.moves.specs.declared.Seat.{Seat}
 use Rattle.records.specs.Layout.{headSize}
@@ -17,7 +17,7 @@ use Rattle.records.specs.declared.Place.{Place}
 use Rattle.records.specs.declared.Booking.{Booking}
 use Rattle.records.specs.declared.Head.{Head}
 use Rattle.records.specs.declared.Sizes.{Sizes}
-use Rattle.room.specs.Contents.{Contents, contentsOf, roomSize, usedPlaces, liveBookings, emptyPlace, emptyBooking}
+use Rattle.room.specs.Contents.{Contents, contentsOf, roomSize, usedPlaces, liveBookings, emptyPlace, emptyBooking, NameBefore}
 
 -- an answer of a check that says exactly whether something holds
 pub record Decides (P : Type 0) (r : Bool) : Type 0 where
@@ -46,9 +46,6 @@ pub record PlaceSound (p : Place) : Type 0 where
   pub name : IsStored (p .name)
   pub seat : SeatSound (seatAt p)
   pub held : isVacant (meaning (seatAt p)) ≡ false
-
-abbrev pub NameBefore : Place → Place → Type 0
-NameBefore p q = order (spelled (p .name)) (spelled (q .name)) ≡ Ordering·lt
 
 pub record PlacesSound (base : ℕ) (ps : List Place) : Type 0 where
   pub each : All PlaceSound ps

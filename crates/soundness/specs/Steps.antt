@@ -10,7 +10,8 @@ use Rattle.records.specs.Rows.{row}
 use Rattle.records.specs.Records.{placeOf, places}
 use Rattle.records.specs.declared.Place.{Place}
 use Rattle.records.specs.declared.Booking.{Booking}
-use Rattle.soundness.specs.Facts.{NameBefore, BookingSound, BookingsSound, shareOf}
+use Rattle.room.specs.Contents.{NameBefore}
+use Rattle.soundness.specs.Facts.{BookingSound, BookingsSound, shareOf}
 
 -- an answer that leaves a question: where it is true, something holds exactly if what is left holds
 pub record Leaves (P Q : Type 0) (r : Bool) : Type 0 where

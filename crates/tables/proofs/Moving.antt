@@ -14,12 +14,6 @@ use Rattle.room.specs.Contents.{opened, closed, renumbered, withOwner, raised, 
 use Rattle.tables.specs.Steps.{movedUp, movedDown}
 
 module _ {A : Type 0} where
-  -- within the list, what is read past its end does not matter
-  pub other-default : (xs : List A) (i : ℕ) (y z : A) → i < length xs → getD xs i y ≡ getD xs i z
-  other-default [] i y z h = absurd (not-suc-le-zero h)
-  other-default (x ∷ xs) zero y z h = refl
-  other-default (x ∷ xs) (suc i) y z h = other-default xs i y z (le-of-suc-le-suc h)
-
   -- what holds of all of the first n, of one of them
   pub all-taken : (P : A → Type 0) (n : ℕ) (xs : List A) (i : ℕ) (z : A) → All P (take n xs) → i < n → i < length xs → P (getD xs i z)
   all-taken P zero xs i z a h l = absurd (not-suc-le-zero h)

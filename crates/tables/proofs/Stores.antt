@@ -4,10 +4,10 @@ use mathlib.Core.Logic.{inl}
 use mathlib.Core.List.{List, []}
 use Prim.Native.Nat.{ℕ, suc, _+_, _*_, _≤_, _<_, _^_}
 use native.Mathlib.Omega.{arith}
-use lib.ListN.{length, getD, drop, set}
-use Rattle.numbers.proofs.Bytes.{all-take, all-drop}
+use lib.ListN.{length, getD, set}
 use Rattle.rules.specs.Lists.{All}
 use Rattle.rules.specs.RoomAndSoundLedger.{IsByte, mostNames, mostReservations}
+use Rattle.rules.proofs.ByIndex.{any-default}
 use Rattle.records.specs.Layout.{placeStart, ledgerHeadOffset, ledgerHeadSize, countsOffset, pairSize, placeSize, bookingSize, headSize}
 use Rattle.records.specs.declared.Place.{Place}
 use Rattle.records.specs.declared.Booking.{Booking}
@@ -18,10 +18,11 @@ use Rattle.records.specs.Records.{placeOf, placeBytes, PlaceFits, bookingOf, bo
 use Rattle.records.proofs.Rows.{row-length, put-length, table-length, table-at, table-apart}
 use Rattle.records.proofs.Records.{place-length, booking-length, booking-fits, head-length, pair-length}
 use Rattle.records.proofs.Room.{Holds, head-apart, sizes-apart, place-stored, booking-stored, head-stored, counts-stored}
+use Rattle.records.proofs.Fields.{row-bytes}
 use Rattle.room.specs.Contents.{Contents, contents, contentsOf, Sized, baseOf, roomSize, withCounts, withHead, withPlace, renumbered}
 use Rattle.tables.specs.Steps.{Becomes, onPlaces, onBookings, onCounts, withBooking, movedDown}
 use Rattle.tables.proofs.Gap.{gap-closed}
-use Rattle.tables.proofs.Moving.{other-default, renumbered-read, renumbered-turn, renumbered-kept}
+use Rattle.tables.proofs.Moving.{renumbered-read, renumbered-turn, renumbered-kept}
 
 -- ── the sizes ──────────────────────────────────────────────────────────────────────────────────
 
@@ -94,21 +95,21 @@ module _ (xs : List ℕ) where
 
   pub place-loaded : (i : ℕ) (z : Place) → i < contentsOf xs .sizes .names → placeOf (row placeSize (placeStart i) xs) ≡ getD (contentsOf xs .places) i z
   unfolding contentsOf
-  place-loaded i z h = sym (table-at placeOf placeSize headSize (sizesOf xs .names) i xs h) ∙ other-default (contentsOf xs .places) i (placeOf []) z (rw places-length h)
+  place-loaded i z h = sym (table-at placeOf placeSize headSize (sizesOf xs .names) i xs h) ∙ any-default (placeOf []) z (contentsOf xs .places) i (rw places-length h)
 
   pub booking-loaded : (i : ℕ) (z : Booking) → i < contentsOf xs .sizes .reservations
       → bookingOf (row bookingSize (baseOf (contentsOf xs .sizes .names) + bookingSize * i) xs) ≡ getD (contentsOf xs .bookings) i z
   unfolding contentsOf
   booking-loaded i z h =
       sym (table-at bookingOf bookingSize (baseOf (sizesOf xs .names)) (sizesOf xs .reservations) i xs h)
-      ∙ other-default (contentsOf xs .bookings) i (bookingOf []) z (rw bookings-length h)
+      ∙ any-default (bookingOf []) z (contentsOf xs .bookings) i (rw bookings-length h)
 
   -- two bytes hold an owner
   pub owner-fits : Sized xs → All IsByte xs → (i : ℕ) (z : Booking) → i < contentsOf xs .sizes .reservations → getD (contentsOf xs .bookings) i z .owner < 2 ^ 16
   owner-fits s a i z h =
       let r = sized-by xs s in
       let from = baseOf (contentsOf xs .sizes .names) + bookingSize * i in
-      let fits = booking-fits (row bookingSize from xs) (all-take IsByte bookingSize (drop from xs) (all-drop IsByte from xs a)) (row-length bookingSize from xs (omega arith)) in
+      let fits = booking-fits (row bookingSize from xs) (row-bytes bookingSize from xs a) (row-length bookingSize from xs (omega arith)) in
       subst (λ b. b .owner < 2 ^ 16) (booking-loaded i z h) (fits .owner)
 
 -- ── stores ─────────────────────────────────────────────────────────────────────────────────────

@@ -8,14 +8,17 @@ use Rattle.rules.specs.AnswerNumbers.{InvalidAmount, MissingTenant, OverflowOfT
 use Rattle.rules.specs.AccountRules.{doneWith, topUpRule}
 use Rattle.rules.specs.Domain.{IsAmount, IsBytes}
 use Rattle.numbers.proofs.Bytes.{all-bytes}
+use Rattle.numbers.proofs.Amounts.{amount-fits}
 use Rattle.moves.specs.Moves.{accountOf, meaning, toppingUpMove, ToppingUpSound, SeatSound}
 use Rattle.moves.specs.declared.ToppingUp.{ToppingUp}
 use Rattle.moves.specs.declared.ToppingUp.the-variants.{Invalid, Missing, Overflow, Grown}
 use Rattle.moves.specs.declared.Seat.{Seat}
-use Rattle.room.specs.Contents.{contentsOf, usedPlaces}
 use Rattle.room.specs.Room.{Performed}
-use Rattle.accounts.proofs.Writes.{top-up-writes, amount-fits, seat-small}
-use Rattle.accounts.proofs.Performing.{OnName, Seen, found-in, searchable, seen-sound, ready, too-long, refuses, writes-held, toppingUp}
+use Rattle.room.proofs.SoundRoom.{searchable}
+use Rattle.room.proofs.Seating.{seat-small}
+use Rattle.lookup.proofs.Places.{seat-readable}
+use Rattle.accounts.proofs.Writes.{top-up-writes}
+use Rattle.accounts.proofs.Performing.{OnName, Seen, seen-sound, ready, too-long, refuses, writes-held, toppingUp}
 use Rattle.accounts.proofs.top_up.Statement.{statement}
 use Rattle.accounts.proofs.top_up.Tie as tie
 
@@ -35,8 +38,7 @@ seat-at-requires : tie.Need-seat-at-requires
 seat-at-requires c κs =
     let d = c .before in
     let s = d .before .before .before .before .before in
-    let xs = s .args .room .now in
-    (searchable xs (s .pre) .0, found-in (s .args .part .now) (usedPlaces (contentsOf xs)) (d .find .result) (d .find .ensures))
+    seat-readable (s .args .room .now) (s .pre) (s .args .part .now) (d .find .result) (d .find .ensures)
 
 abbrev entry : tie.After-seat-at → tie.After-shared-slice-known
 entry c = c .before .before .before .before .before
@@ -81,10 +83,10 @@ write-seat-requires c κs =
     ready (seen (d .before)) (op (entry (d .before))) (carried t) (grown t) (moves d (Grown (grown t)) (t .decided .given .1)) (known t)
 
 amount-requires : tie.Need-amount-requires
-amount-requires c κs = let t = c .before .before .before .before .before in seat-small (grown t) (known t) .0
+amount-requires c κs = let t = c .before .before .before .before .before in seat-small (grown t) (known t) .initial
 
 amount-requires-2 : tie.Need-amount-requires-2
-amount-requires-2 c κs = let t = c .before .before .before .before .before .before in seat-small (grown t) (known t) .1
+amount-requires-2 c κs = let t = c .before .before .before .before .before .before in seat-small (grown t) (known t) .remaining
 
 returns-5 : tie.Need-returns-5
 returns-5 c L room =

@@ -7,15 +7,14 @@ use Rattle.rules.specs.AccountRules.{seated}
 use Rattle.rules.proofs.Tests.{true-false}
 use Rattle.moves.specs.Moves.{meaning}
 use Rattle.room.specs.Room.{contentsIn}
-use Rattle.room.proofs.SoundRoom.{sized, names-short}
+use Rattle.room.proofs.SoundRoom.{searchable}
 use Rattle.filling.proofs.put_row.Statement.{statement}
 use Rattle.filling.proofs.put_row.Tie as tie
 
 find-requires : tie.Need-find-requires
 find-requires c κs =
     let s = c .before .before .before in
-    let known = s .pre .0 in
-    (sized (s .args .room .now) (known .ledger) (known .is-room), names-short (s .args .room .now) (known .ledger) (known .is-room))
+    searchable (s .args .room .now) (s .pre .0)
 
 -- the seat is not vacant: nothing is freed
 write-seat-requires : tie.Need-write-seat-requires

@@ -32,16 +32,16 @@ compared : (c : tie.After-is-same Inv-loop μ-loop) →
 compared c =
     let l = c .before .before .before in
     let s = l .before .before .before .before in
-    let kept = c .before .name-at .ensures ∙ loaded-name (s .args .room .now) (s .pre .0) (l .loop .i) noPlace (omega (arith, in-use (l .before))) in
+    let kept = c .before .name-at .ensures ∙ loaded-name (s .args .room .now) (s .pre .sized) (l .loop .i) noPlace (omega (arith, in-use (l .before))) in
     sym (c .is-same .ensures ∙ ap (same (s .args .part .now)) kept)
 
 load-sizes-requires : tie.Need-load-sizes-requires Inv-loop μ-loop
-load-sizes-requires c κs = omega (arith, c .before .before .pre .0 .size)
+load-sizes-requires c κs = omega (arith, c .before .before .pre .sized .size)
 
 name-at-requires : tie.Need-name-at-requires Inv-loop μ-loop
 name-at-requires c κs =
     let s = c .before .before .before .before .before in
-    name-in-room (s .args .room .now) (s .pre .0) (c .before .loop .i) (s .pre .1) (omega (arith, in-use (c .before .before)))
+    name-in-room (s .args .room .now) (s .pre .sized) (c .before .loop .i) (s .pre .names-stored) (omega (arith, in-use (c .before .before)))
 
 returns : tie.Need-returns Inv-loop μ-loop
 returns c =
@@ -49,7 +49,7 @@ returns c =
     let s = l .before .before .before .before in
     let ps = usedPlaces (contentsOf (s .args .room .now)) in
     name-only (s .args .part .now) noPlace ps (At (l .loop .i))
-    (omega (arith, in-use (l .before), used-places (s .args .room .now) (s .pre .0)), compared (c .before) ∙ c .if1 .taken, l .loop .inv .1)
+    (omega (arith, in-use (l .before), used-places (s .args .room .now) (s .pre .sized)), compared (c .before) ∙ c .if1 .taken, l .loop .inv .1)
 
 loop-again : tie.Need-loop-again Inv-loop μ-loop
 loop-again c =
@@ -62,7 +62,7 @@ returns-2 c =
     let s = l .before .before .before .before in
     let ps = usedPlaces (contentsOf (s .args .room .now)) in
     name-only (s .args .part .now) noPlace ps Absent
-    (all-of-reads (λ p. spells (s .args .part .now) p ≡ false) noPlace ps (λ k h. l .loop .inv .1 k (omega (arith, in-use (l .before), used-places (s .args .room .now) (s .pre .0)))))
+    (all-of-reads (λ p. spells (s .args .part .now) p ≡ false) noPlace ps (λ k h. l .loop .inv .1 k (omega (arith, in-use (l .before), used-places (s .args .room .now) (s .pre .sized)))))
 
 pub find-spec : {M : Type 1} → statement M
 find-spec =

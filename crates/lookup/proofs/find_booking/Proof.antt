@@ -26,7 +26,7 @@ names-read : (c : tie.After-load-sizes Inv-loop μ-loop) → c .load-sizes .resu
 names-read c = ap (λ s. s .names) (c .load-sizes .ensures)
 
 live-read : (c : tie.After-load-sizes Inv-loop μ-loop) → length (liveBookings (contentsOf (c .before .before .args .room .now))) ≡ c .load-sizes .result .live
-live-read c = live-bookings (c .before .before .args .room .now) (c .before .before .pre .0) ∙ sym (ap (λ s. s .live) (c .load-sizes .ensures))
+live-read c = live-bookings (c .before .before .args .room .now) (c .before .before .pre .sized) ∙ sym (ap (λ s. s .live) (c .load-sizes .ensures))
 
 abbrev middle : (c : tie.At-loop Inv-loop μ-loop) → ℕ
 middle c = (c .loop .low + c .loop .high) / 2
@@ -34,7 +34,7 @@ middle c = (c .loop .low + c .loop .high) / 2
 middle-live : (c : tie.In-loop Inv-loop μ-loop) → middle (c .before) < sizesOf (c .before .before .before .before .args .room .now) .live
 middle-live c =
     let s = c .before .before .before .before in
-    omega (arith, c .before .loop .inv .within, live-bookings (s .args .room .now) (s .pre .0))
+    omega (arith, c .before .loop .inv .within, live-bookings (s .args .room .now) (s .pre .sized))
 
 loaded : (c : tie.After-load-booking Inv-loop μ-loop) →
     let l = c .before .before in
@@ -47,16 +47,16 @@ loaded c =
     ap (λ b. b .id)
     (c .load-booking .ensures
     ∙ ap (λ n. bookingOf (row bookingSize (baseOf n + bookingSize * middle l) xs)) (names-read (l .before))
-    ∙ loaded-booking xs (s .pre .0) (middle l) emptyBooking (middle-live (c .before)))
+    ∙ loaded-booking xs (s .pre .sized) (middle l) emptyBooking (middle-live (c .before)))
 
 load-sizes-requires : tie.Need-load-sizes-requires Inv-loop μ-loop
-load-sizes-requires c κs = omega (arith, c .before .pre .0 .size)
+load-sizes-requires c κs = omega (arith, c .before .pre .sized .size)
 
 mul-base : tie.Need-mul-base Inv-loop μ-loop
-mul-base c = omega (arith, names-read c, c .before .before .pre .0 .names)
+mul-base c = omega (arith, names-read c, c .before .before .pre .sized .names)
 
 add-base : tie.Need-add-base Inv-loop μ-loop
-add-base c = omega (arith, names-read c, c .before .before .pre .0 .names)
+add-base c = omega (arith, names-read c, c .before .before .pre .sized .names)
 
 loop-holds : tie.Need-loop-holds Inv-loop μ-loop
 loop-holds c =
@@ -64,10 +64,10 @@ loop-holds c =
     whole (λ b. b .id < a .id) (λ b. a .id < b .id) emptyBooking (liveBookings (contentsOf (a .room .now))) (c .load-sizes .result .live) (live-read c)
 
 add-middle : tie.Need-add-middle Inv-loop μ-loop
-add-middle c = omega (arith, middle-live c, c .before .before .before .before .pre .0)
+add-middle c = omega (arith, middle-live c, c .before .before .before .before .pre .sized)
 
 load-booking-requires : tie.Need-load-booking-requires Inv-loop μ-loop
-load-booking-requires c κs = omega (arith, names-read (c .before .before), middle-live c, c .before .before .before .before .pre .0)
+load-booking-requires c κs = omega (arith, names-read (c .before .before), middle-live c, c .before .before .before .before .pre .sized)
 
 returns : tie.Need-returns Inv-loop μ-loop
 returns c =
@@ -75,20 +75,20 @@ returns c =
     let s = l .before .before .before in
     let bs = liveBookings (contentsOf (s .args .room .now)) in
     booking-only (s .args .id) emptyBooking bs (At (middle l))
-    (hit (ids-divide (s .args .id)) emptyBooking bs (s .pre .1) (l .loop .inv) (middle l) (omega arith) (omega arith)
+    (hit (ids-divide (s .args .id)) emptyBooking bs (s .pre .ids-ascend) (l .loop .inv) (middle l) (omega arith) (omega arith)
     (eq-eqb (s .args .id) (getD bs (middle l) emptyBooking .id) (sym (c .if1 .taken) ∙ loaded (c .before .before))))
 
 add-low : tie.Need-add-low Inv-loop μ-loop
 add-low c =
     let l = c .before .before .before .before .before in
-    omega (arith, middle-live l, l .before .before .before .before .pre .0)
+    omega (arith, middle-live l, l .before .before .before .before .pre .sized)
 
 loop-again : tie.Need-loop-again Inv-loop μ-loop
 loop-again c =
     let l = c .before .before .before .before .before .before in
     let s = l .before .before .before in
     let bs = liveBookings (contentsOf (s .args .room .now)) in
-    raise-low (ids-divide (s .args .id)) emptyBooking bs (s .pre .1) (l .loop .inv) (middle l) (omega arith) (omega arith)
+    raise-low (ids-divide (s .args .id)) emptyBooking bs (s .pre .ids-ascend) (l .loop .inv) (middle l) (omega arith) (omega arith)
     (omega (arith, c .if2 .taken, loaded (c .before .before .before .before)))
 
 loop-again-2 : tie.Need-loop-again-2 Inv-loop μ-loop
@@ -96,14 +96,14 @@ loop-again-2 c =
     let l = c .before .before .before .before .before .before in
     let s = l .before .before .before in
     let bs = liveBookings (contentsOf (s .args .room .now)) in
-    lower-high (ids-divide (s .args .id)) emptyBooking bs (s .pre .1) (l .loop .inv) (middle l) (omega arith) (omega arith)
+    lower-high (ids-divide (s .args .id)) emptyBooking bs (s .pre .ids-ascend) (l .loop .inv) (middle l) (omega arith) (omega arith)
     (omega (arith, c .if2 .left, c .before .before .if1 .left, loaded (c .before .before .before .before)))
 
 returns-2 : tie.Need-returns-2 Inv-loop μ-loop
 returns-2 c =
     let s = c .before .before .before .before in
     let bs = liveBookings (contentsOf (s .args .room .now)) in
-    booking-only (s .args .id) emptyBooking bs Absent (miss (ids-divide (s .args .id)) emptyBooking bs (s .pre .1) (c .before .loop .inv) (c .loop-test .left))
+    booking-only (s .args .id) emptyBooking bs Absent (miss (ids-divide (s .args .id)) emptyBooking bs (s .pre .ids-ascend) (c .before .loop .inv) (c .loop-test .left))
 
 pub find-booking-spec : {M : Type 1} → statement M
 find-booking-spec =

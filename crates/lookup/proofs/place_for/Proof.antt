@@ -42,16 +42,16 @@ compared : (c : tie.After-compare Inv-loop μ-loop) →
 compared c =
     let l = c .before .before .before in
     let s = l .before .before .before .before in
-    let kept = c .before .name-at .ensures ∙ loaded-name (s .args .room .now) (s .pre .0) (l .loop .i) noPlace (omega (arith, in-use (l .before))) in
+    let kept = c .before .name-at .ensures ∙ loaded-name (s .args .room .now) (s .pre .sized) (l .loop .i) noPlace (omega (arith, in-use (l .before))) in
     c .compare .ensures ∙ ap (λ n. order n (s .args .part .now)) kept
 
 load-sizes-requires : tie.Need-load-sizes-requires Inv-loop μ-loop
-load-sizes-requires c κs = omega (arith, c .before .before .pre .0 .size)
+load-sizes-requires c κs = omega (arith, c .before .before .pre .sized .size)
 
 name-at-requires : tie.Need-name-at-requires Inv-loop μ-loop
 name-at-requires c κs =
     let s = c .before .before .before .before .before in
-    name-in-room (s .args .room .now) (s .pre .0) (c .before .loop .i) (s .pre .1) (omega (arith, in-use (c .before .before)))
+    name-in-room (s .args .room .now) (s .pre .sized) (c .before .loop .i) (s .pre .names-stored) (omega (arith, in-use (c .before .before)))
 
 returns : tie.Need-returns Inv-loop μ-loop
 returns c =
@@ -60,7 +60,7 @@ returns c =
     let ps = usedPlaces (contentsOf (s .args .room .now)) in
     goes-only (s .args .part .now) noPlace ps (l .loop .i)
     (record {
-      within = omega (arith, in-use (l .before), used-places (s .args .room .now) (s .pre .0));
+      within = omega (arith, in-use (l .before), used-places (s .args .room .now) (s .pre .sized));
       behind = l .loop .inv .1;
       stops = λ h e. other-tag (c .before .compare .result) (c .match .keys2) (compared (c .before) ∙ e);
     })
@@ -75,7 +75,7 @@ returns-2 c =
     let l = c .before in
     let s = l .before .before .before .before in
     let ps = usedPlaces (contentsOf (s .args .room .now)) in
-    let n : length ps ≡ l .before .load-sizes .result .used = used-places (s .args .room .now) (s .pre .0) ∙ sym (in-use (l .before)) in
+    let n : length ps ≡ l .before .load-sizes .result .used = used-places (s .args .room .now) (s .pre .sized) ∙ sym (in-use (l .before)) in
     goes-only (s .args .part .now) noPlace ps (l .loop .i)
     (record { within = omega arith; behind = l .loop .inv .1; stops = λ h e. omega arith })
 

@@ -1,6 +1,7 @@
 -- `reads::seek` meets its contract.
-use Rattle.room.specs.Contents.{contentsOf, usedPlaces}
-use Rattle.reads.proofs.Seeking.{searchable, found-in, sought-long, sought-seat}
+use Rattle.room.proofs.SoundRoom.{searchable}
+use Rattle.lookup.proofs.Places.{seat-readable}
+use Rattle.reads.proofs.Seeking.{sought-long, sought-seat}
 use Rattle.reads.proofs.seek.Statement.{statement}
 use Rattle.reads.proofs.seek.Tie as tie
 
@@ -13,8 +14,7 @@ find-requires c κs = let s = c .before .before .before in searchable (s .args .
 seat-at-requires : tie.Need-seat-at-requires
 seat-at-requires c κs =
     let s = c .before .before .before .before in
-    let xs = s .args .room .now in
-    (searchable xs (s .pre) .0, found-in (s .args .part .now) (usedPlaces (contentsOf xs)) (c .find .result) (c .find .ensures))
+    seat-readable (s .args .room .now) (s .pre) (s .args .part .now) (c .find .result) (c .find .ensures)
 
 returns-2 : tie.Need-returns-2
 returns-2 c L room =

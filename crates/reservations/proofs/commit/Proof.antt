@@ -9,15 +9,15 @@ use Rattle.rules.specs.RoomAndSoundLedger.{M, Ledger}
 use Rattle.rules.specs.AnswerNumbers.{Amount, reply, InvalidAmount, MissingTenant, OverflowOfCommit, Overrun}
 use Rattle.rules.specs.AccountRules.{AccountOperation, commit, commitRule, operate, onBooking, booked, doneWith}
 use Rattle.rules.specs.Domain.{IsAmount}
+use Rattle.numbers.proofs.Amounts.{amount-fits}
 use Rattle.moves.specs.Moves.{SeatSound, committingSettlement, CommittingSound}
 use Rattle.moves.specs.declared.Committing.{Committing}
 use Rattle.moves.specs.declared.Committing.the-variants as committing
-use Rattle.room.specs.Contents.{Sized}
 use Rattle.room.specs.Room.{IsRoom}
-use Rattle.room.proofs.SoundRoom.{sized, ids-ascend}
-use Rattle.reservations.proofs.Fitting.{commit-fits, seat-small}
-use Rattle.reservations.proofs.Performing.{amount-fits}
-use Rattle.reservations.proofs.Ending.{Live, Settled, live-below, end-allowed, due-allowed, live, gone, refuses, settled, leaves, ends}
+use Rattle.room.proofs.SoundRoom.{searchable}
+use Rattle.room.proofs.Seating.{seat-small}
+use Rattle.reservations.proofs.Fitting.{commit-fits}
+use Rattle.reservations.proofs.Ending.{Settled, end-allowed, gone, refuses, settled, leaves, ends, FoundBooking, found-booking}
 use Rattle.reservations.proofs.commit.Statement.{statement}
 use Rattle.reservations.proofs.commit.Tie as tie
 
@@ -44,35 +44,25 @@ ledger s = s .pre .ledger
 is-room : (s : tie.Start) → IsRoom (room s) (ledger s)
 is-room s = s .pre .is-room
 
-room-sized : (s : tie.Start) → Sized (room s)
-room-sized s = sized (room s) (ledger s) (is-room s)
-
 find-booking-requires : tie.Need-find-booking-requires
-find-booking-requires c κs = let s = c .before .before in (room-sized s, ids-ascend (room s) (ledger s) (is-room s))
+find-booking-requires c κs = let s = c .before .before in searchable (room s) (s .pre)
 
 -- ── the reservation that was found ─────────────────────────────────────────────────────────────
 
 abbrev at : tie.After-j → ℕ
 at c = c .j .given .0 .0
 
-found : (c : tie.After-j) (L : Ledger) → let s = c .before .before .before .before .before in IsRoom (room s) L → Live L (id s) (at c)
-found c L r =
+found : (c : tie.After-j) → let s = c .before .before .before .before .before in FoundBooking (room s) (id s) (at c)
+found c =
     let s = c .before .before .before .before .before in
     let f = c .before .before .find-booking in
-    live (room s) L r (id s) (at c) (f .result) (f .ensures) (c .j .given .1)
+    found-booking (room s) (s .pre) (id s) (at c) (f .result) (f .ensures) (c .j .given .1)
 
 due-at-requires : tie.Need-due-at-requires
-due-at-requires c κs =
-    let j = c .before .before in
-    let s = j .before .before .before .before .before in
-    (s .pre, live-below (room s) (ledger s) (is-room s) (id s) (at j) (found j (ledger s) (is-room s)))
+due-at-requires c κs = found (c .before .before) .readable
 
 commit-requires : tie.Need-commit-requires
-commit-requires c κs =
-    let j = c .before .before .before .before in
-    let s = j .before .before .before .before .before in
-    let due = c .before .due-at in
-    due-allowed (room s) (ledger s) (is-room s) (at j) (found j (ledger s) (is-room s) .below) (due .result) (due .ensures (ledger s) (is-room s))
+commit-requires c κs = let due = c .before .due-at in found (c .before .before .before .before) .allowed (due .result) (due .ensures)
 
 abbrev place : tie.After-commit → tie.After-j
 place c = c .before .before .before .before .before
@@ -92,7 +82,7 @@ told : (c : tie.After-commit) (r : Committing) → c .commit .result ≡ r → D
 told c r e L k =
     let s = start c in
     let due = c .before .before .due-at in
-    settled (room s) L k (operation s) (id s) (commitRule (actual s)) (settles s L) (at (place c)) (found (place c) L k) (due .result) (due .ensures L k) _
+    settled (room s) L k (operation s) (id s) (commitRule (actual s)) (settles s L) (at (place c)) (found (place c) .is-live L k) (due .result) (due .ensures L k) _
     (sym (ap (committingSettlement (actual s)) e) ∙ c .commit .ensures .0) (commit-fits (actual s))
 
 returns : tie.Need-returns
@@ -176,7 +166,7 @@ commit-spec =
     (λ c κs. let s = start (c .before .before .before) in overruns c (ledger s) (is-room s) .fits .0)
     (λ c. search needs)
     end-requires
-    (λ c κs. seat-small _ (ended-sound (c .before .before .before .before)) .0)
+    (λ c κs. seat-small _ (ended-sound (c .before .before .before .before)) .remaining)
     (λ c. search needs)
     returns-2
     (λ c. search needs)

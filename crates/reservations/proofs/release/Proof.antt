@@ -10,11 +10,11 @@ use Rattle.rules.specs.AccountRules.{AccountOperation, release, releaseRule, op
 use Rattle.moves.specs.Moves.{SeatSound, releasingSettlement, ReleasingSound}
 use Rattle.moves.specs.declared.Releasing.{Releasing}
 use Rattle.moves.specs.declared.Releasing.the-variants as releasing
-use Rattle.room.specs.Contents.{Sized}
 use Rattle.room.specs.Room.{IsRoom}
-use Rattle.room.proofs.SoundRoom.{sized, ids-ascend}
-use Rattle.reservations.proofs.Fitting.{release-fits, seat-small}
-use Rattle.reservations.proofs.Ending.{Live, Settled, live-below, end-allowed, due-allowed, live, gone, refuses, settled, leaves, ends}
+use Rattle.room.proofs.SoundRoom.{searchable}
+use Rattle.room.proofs.Seating.{seat-small}
+use Rattle.reservations.proofs.Fitting.{release-fits}
+use Rattle.reservations.proofs.Ending.{Settled, end-allowed, gone, refuses, settled, leaves, ends, FoundBooking, found-booking}
 use Rattle.reservations.proofs.release.Statement.{statement}
 use Rattle.reservations.proofs.release.Tie as tie
 
@@ -35,35 +35,25 @@ ledger s = s .pre .ledger
 is-room : (s : tie.Start) → IsRoom (room s) (ledger s)
 is-room s = s .pre .is-room
 
-room-sized : (s : tie.Start) → Sized (room s)
-room-sized s = sized (room s) (ledger s) (is-room s)
-
 find-booking-requires : tie.Need-find-booking-requires
-find-booking-requires c κs = let s = c .before .before in (room-sized s, ids-ascend (room s) (ledger s) (is-room s))
+find-booking-requires c κs = let s = c .before .before in searchable (room s) (s .pre)
 
 -- ── the reservation that was found ─────────────────────────────────────────────────────────────
 
 abbrev at : tie.After-j → ℕ
 at c = c .j .given .0 .0
 
-found : (c : tie.After-j) (L : Ledger) → let s = c .before .before .before .before .before in IsRoom (room s) L → Live L (id s) (at c)
-found c L r =
+found : (c : tie.After-j) → let s = c .before .before .before .before .before in FoundBooking (room s) (id s) (at c)
+found c =
     let s = c .before .before .before .before .before in
     let f = c .before .before .find-booking in
-    live (room s) L r (id s) (at c) (f .result) (f .ensures) (c .j .given .1)
+    found-booking (room s) (s .pre) (id s) (at c) (f .result) (f .ensures) (c .j .given .1)
 
 due-at-requires : tie.Need-due-at-requires
-due-at-requires c κs =
-    let j = c .before .before in
-    let s = j .before .before .before .before .before in
-    (s .pre, live-below (room s) (ledger s) (is-room s) (id s) (at j) (found j (ledger s) (is-room s)))
+due-at-requires c κs = found (c .before .before) .readable
 
 release-requires : tie.Need-release-requires
-release-requires c κs =
-    let j = c .before .before .before .before in
-    let s = j .before .before .before .before .before in
-    let due = c .before .due-at in
-    due-allowed (room s) (ledger s) (is-room s) (at j) (found j (ledger s) (is-room s) .below) (due .result) (due .ensures (ledger s) (is-room s))
+release-requires c κs = let due = c .before .due-at in found (c .before .before .before .before) .allowed (due .result) (due .ensures)
 
 abbrev place : tie.After-release → tie.After-j
 place c = c .before .before .before .before .before
@@ -86,7 +76,7 @@ told : (c : tie.After-release) (r : Releasing) → c .release .result ≡ r → 
 told c r e L k =
     let s = start c in
     let due = c .before .before .due-at in
-    settled (room s) L k (operation s) (id s) releaseRule (settles s L) (at (place c)) (found (place c) L k) (due .result) (due .ensures L k) _
+    settled (room s) L k (operation s) (id s) releaseRule (settles s L) (at (place c)) (found (place c) .is-live L k) (due .result) (due .ensures L k) _
     (sym (ap (releasingSettlement (due .result .amount)) e) ∙ c .release .ensures .0) (λ amount o l adds. release-fits amount o l)
 
 returns : tie.Need-returns
@@ -121,10 +111,9 @@ end-requires c κs =
 amount-requires-2 : tie.Need-amount-requires-2
 amount-requires-2 c κs =
     let d = c .before .before .before .before .before .before .before .before in
-    let s = start d in
     let due = d .before .before .due-at in
-    let allowed = due-allowed (room s) (ledger s) (is-room s) (at (place d)) (found (place d) (ledger s) (is-room s) .below) (due .result) (due .ensures (ledger s) (is-room s)) in
-    omega (arith, allowed .1, seat-small _ (allowed .0) .1)
+    let allowed = found (place d) .allowed (due .result) (due .ensures) in
+    omega (arith, allowed .1, seat-small _ (allowed .0) .reserved)
 
 returns-3 : tie.Need-returns-3
 returns-3 c L r =
@@ -148,7 +137,7 @@ release-spec =
     (λ c. search needs)
     (λ c. search needs)
     end-requires
-    (λ c κs. seat-small _ (returned-sound (c .before .before .before .before)) .0)
+    (λ c κs. seat-small _ (returned-sound (c .before .before .before .before)) .remaining)
     amount-requires-2
     (λ c. search needs)
     returns-2

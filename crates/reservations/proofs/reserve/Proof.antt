@@ -11,15 +11,16 @@ use Rattle.rules.specs.AnswerNumbers.{Amount, reply, MissingTenant, OverflowOfR
 use Rattle.rules.specs.AccountRules.{nextIdIsM}
 use Rattle.rules.specs.Domain.{IsBytes, IsAmount}
 use Rattle.numbers.proofs.Bytes.{all-bytes}
+use Rattle.numbers.proofs.Amounts.{amount-fits}
 use Rattle.moves.specs.declared.Reserving.{Reserving}
 use Rattle.moves.specs.declared.Reserving.the-variants as reserving
 use Rattle.room.specs.Contents.{contentsOf, Sized, usedPlaces, placeOfName}
 use Rattle.room.specs.Room.{IsRoom}
 use Rattle.room.specs.declared.Found.the-variants.{At}
-use Rattle.room.proofs.SoundRoom.{sized, names-short}
-use Rattle.reservations.proofs.Fitting.{seat-small}
-use Rattle.reservations.proofs.Performing.{amount-fits}
-use Rattle.reservations.proofs.Reserving.{Decided, found-in, found-sound, too-long, decides, refuses, next-below, loses, found-at, place-in-use, books}
+use Rattle.room.proofs.SoundRoom.{sized, searchable}
+use Rattle.room.proofs.Seating.{seat-small}
+use Rattle.lookup.proofs.Places.{seat-readable}
+use Rattle.reservations.proofs.Reserving.{Decided, found-sound, too-long, decides, refuses, next-below, loses, found-at, place-in-use, books}
 use Rattle.reservations.proofs.reserve.Statement.{statement}
 use Rattle.reservations.proofs.reserve.Tie as tie
 
@@ -50,12 +51,12 @@ returns : tie.Need-returns
 returns c L r = let s = c .before .before .before in too-long (room s) L r (name s) (cost s) (c .if1 .taken)
 
 find-requires : tie.Need-find-requires
-find-requires c κs = let s = c .before .before .before .before in (room-sized s, names-short (room s) (ledger s) (is-room s))
+find-requires c κs = let s = c .before .before .before .before in searchable (room s) (s .pre)
 
 seat-at-requires : tie.Need-seat-at-requires
 seat-at-requires c κs =
     let s = c .before .before .before .before .before .before in
-    (room-sized s, found-in (name s) (usedPlaces (contentsOf (room s))) (c .before .find .result) (c .before .find .ensures))
+    seat-readable (room s) (s .pre) (name s) (c .before .find .result) (c .before .find .ensures)
 
 load-head-requires : tie.Need-load-head-requires
 load-head-requires c κs = omega (arith, room-sized (c .before .before .before .before .before .before .before .before) .size)
@@ -172,7 +173,7 @@ book-requires c κs =
     let b = booked k (ledger s) (is-room s) in (
       room-sized s,
       place-in-use (room s) (ledger s) (is-room s) (name s) (b .fits .1) _ (at f),
-      seat-small _ (b .sound) .0,
+      seat-small _ (b .sound) .remaining,
       next-id-below d (b .fits .0),
     )
 

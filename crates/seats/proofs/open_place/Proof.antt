@@ -6,7 +6,7 @@ use borrow.Author.Needs.{needs}
 use lib.ListN.{length}
 use Rattle.rules.specs.RoomAndSoundLedger.{Ledger}
 use Rattle.room.specs.Room.{IsRoom}
-use Rattle.room.proofs.SoundRoom.{sized, names-short}
+use Rattle.room.proofs.SoundRoom.{sized, searchable}
 use Rattle.seats.proofs.Places.{sizes-read, owners-small, one-more, place-for, opens, full}
 use Rattle.seats.proofs.open_place.Statement.{statement}
 use Rattle.seats.proofs.open_place.Tie as tie
@@ -30,8 +30,7 @@ room-left c L room =
 place-for-requires : tie.Need-place-for-requires
 place-for-requires c κs =
     let s = c .before .before .before .before .before .before .before in
-    let sound = s .pre .0 in
-    (sized (s .args .room .now) (sound .ledger) (sound .is-room), names-short (s .args .room .now) (sound .ledger) (sound .is-room))
+    searchable (s .args .room .now) (s .pre .0)
 
 insert-place-requires : tie.Need-insert-place-requires
 insert-place-requires c κs =

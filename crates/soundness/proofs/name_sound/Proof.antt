@@ -11,11 +11,12 @@ use Rattle.rules.specs.RoomAndSoundLedger.{IsByte, longestName}
 use Rattle.numbers.specs.LittleEndian.{littleNumber}
 use Rattle.numbers.proofs.Bytes.{all-bytes}
 use Rattle.records.specs.Rows.{row}
+use Rattle.records.proofs.Fields.{row-bytes}
 use Rattle.soundness.specs.Facts.{Decides}
 use Rattle.soundness.specs.Steps.{placeAt}
 use Rattle.soundness.proofs.ClearBytes.{ClearFrom, small-clear, clear-small, part-clear, clear-part}
 use Rattle.soundness.proofs.Deciding.{accept, refuse, by-answer, refused, accepted, less-or-not}
-use Rattle.soundness.proofs.NameBytes.{row-of-bytes, name-at-bytes}
+use Rattle.soundness.proofs.NameBytes.{name-at-bytes}
 use Rattle.soundness.proofs.Standing.{bytes-width}
 use Rattle.soundness.proofs.name_sound.Statement.{statement}
 use Rattle.soundness.proofs.name_sound.Tie as tie
@@ -44,7 +45,7 @@ read c =
     let asked : Decides (littleNumber part < 2 ^ (8 * n)) (c .is-clear .result) =
     subst (λ t. Decides t (c .is-clear .result)) (ap₂ (λ w f. w < 2 ^ (8 * f)) word (c .before .less .ensures)) (c .is-clear .ensures) in
     let bytes : All IsByte part =
-    row-of-bytes 8 (8 * l .loop .part) (Bytes l) (name-at-bytes (entry l .args .i) room (all-bytes room (l .before .before .before .shared-slice-known .given))) in
+    row-bytes 8 (8 * l .loop .part) (Bytes l) (name-at-bytes (entry l .args .i) room (all-bytes room (l .before .before .before .shared-slice-known .given))) in
     by-answer asked (small-clear n part) (clear-small n part bytes)
 
 name-length-requires : tie.Need-name-length-requires Inv-loop μ-loop

@@ -12,7 +12,8 @@ use Rattle.moves.specs.Moves.{meaning, SeatSound}
 use Rattle.records.specs.Records.{placeOf, places}
 use mathlib.Core.Bool.{false}
 use Rattle.records.specs.Layout.{placeSize, headSize}
-use Rattle.soundness.specs.Facts.{seatAt, NameBefore, PlaceSound, PlacesSound}
+use Rattle.room.specs.Contents.{NameBefore}
+use Rattle.soundness.specs.Facts.{seatAt, PlaceSound, PlacesSound}
 use Rattle.soundness.specs.Steps.{placeAt, Noted}
 use Rattle.soundness.proofs.Deciding.{refuse, refused, accepted, by-equal}
 use Rattle.soundness.proofs.Places.{committedBy, sound-more, ascend-more, left-more, noted-more, place-sound, name-follows}
