@@ -4,7 +4,6 @@ use moves::Limiting;
 use moves::ToppingUp;
 use numbers::Microcents;
 use seats::Written;
-ghost use mathlib.Core.Path.{_≡_};
 ghost use Rattle.rules.specs.AccountRules.{ensure, topUp, limit, operate};
 ghost use Rattle.room.specs.Room.{SoundRoom, Performs};
 ghost use Rattle.accounts.specs.Answers.{ensuredReply, toppedUpReply, limitedReply};

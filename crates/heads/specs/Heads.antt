@@ -30,7 +30,7 @@ afterDraw h = withNextId (suc (h .«next_id»)) h
 abbrev pub drawnHead : Head → Drawn
 drawnHead h = record { drawing = identifierAt (h .«next_id»); head = withNextId (nextAfter (h .«next_id»)) h }
 
--- "next id grows by 1 and the version is 2^63 plus the new next id, stored as last version"
+-- document 01, Snapshots, the taking of one: the id after the one drawn, tagged, is kept as the last version
 abbrev pub afterStamp : Head → Head
 afterStamp h = record { «next_id» = suc (h .«next_id»); «last_version» = tagged (suc (h .«next_id»)); baseline = h .baseline }
 
@@ -47,6 +47,6 @@ sinceBaseline baseline total = cond (ltb baseline total) (total - baseline) 0
 abbrev pub larger : (baseline total : ℕ) → ℕ
 larger baseline total = cond (ltb baseline total) total baseline
 
--- "Since is committed total less baseline, and the baseline moves, only if .. the total is larger; else 0."
+-- document 01, Snapshots, certificate of the ledger: what was committed past the baseline, which follows a total only upwards
 abbrev pub rotatedHead : Head → ℕ → Rotated
 rotatedHead h total = record { since = sinceBaseline (h .baseline) total; head = withBaseline (larger (h .baseline) total) h }

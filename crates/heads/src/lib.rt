@@ -1,8 +1,8 @@
-// The ledger's head (next id, last version, baseline): an id drawn and the baseline rotated in place, and what a snapshot stamps on it.
+// The three numbers of a ledger that stand apart from its tables: an id drawn and the baseline rotated in place, and what a snapshot stamps on them.
 use numbers::Identifier;
 use records::Head;
-ghost use mathlib.Core.Path.{_≡_};
 ghost use Prim.Native.Nat.{_≤_};
+ghost use mathlib.Core.Path.{_≡_};
 ghost use Rattle.rules.specs.RoomAndSoundLedger.{M};
 ghost use Rattle.heads.specs.Heads.{identifierAt, nextAfter, drawnHead, stampedHead, sinceBaseline, larger, rotatedHead};
 
@@ -74,7 +74,7 @@ pub fn draw(head: &mut Head) -> Drawing
     drawing
 }
 
-// "Since is committed total less baseline, and the baseline moves, only if .. the total is larger; else 0."
+// Document 01, Snapshots, certificate of the ledger: what was committed past the baseline, which follows a total only upwards.
 pub fn rotate(head: &mut Head, total: u64) -> u64
     ensures { λ r. ⌜ (r ≡ rotatedHead (now (head .entry)) total .since) × (now (head .exit) ≡ rotatedHead (now (head .entry)) total .head) ⌝ }
 {
@@ -98,7 +98,7 @@ pub fn after_rotation(mut head: Head, total: u64) -> Rotated
     Rotated { since, head }
 }
 
-// "next id M gives 9 .. else next id grows by 1 and the version is 2^63 plus the new next id".
+// Document 01, Snapshots, the taking of one: refused at M; else the id after the one drawn, tagged, is the last version.
 pub fn stamp(head: Head) -> Stamped
     requires { ⌜ head .«next_id» ≤ M ⌝ }
     ensures { λ r. ⌜ r ≡ stampedHead head ⌝ }

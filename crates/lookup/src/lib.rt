@@ -1,8 +1,8 @@
 // Look-up in the tables of a room: a name's place, the place for a new name, a live booking by its id.
 use names::Order;
 use room::Found;
-ghost use mathlib.Core.Path.{_≡_};
 ghost use Prim.Native.Nat.{_+_, _*_, _≤_, _<_};
+ghost use mathlib.Core.Path.{_≡_};
 ghost use lib.ListN.{length};
 ghost use Rattle.rules.specs.RoomAndSoundLedger.{longestName};
 ghost use Rattle.names.specs.Names.{spelled};

@@ -1,4 +1,4 @@
--- A name by value: its length, and 24 bytes of which those past the length are zero.
+-- A name by value: its length, and as many bytes as the longest name has, of which those past the length are zero.
 use mathlib.Core.Path.{_≡_}
 use mathlib.Core.List.{List, _++_}
 use Prim.Native.Nat.{ℕ, _-_, _≤_, Ordering, Ordering·lt, Ordering·eq, Ordering·gt}
@@ -24,6 +24,6 @@ stored a = record { length = length a; bytes = a ++ replicate (longestName - len
 
 pub record IsStored (n : Name) : Type 0 where
   pub fits : n .length ≤ longestName
-  -- an array has its 24 bytes; a list may have any number
+  -- an array has just so many bytes; a list may have any number
   pub width : length (n .bytes) ≡ longestName
   pub clear : (i : ℕ) → n .length ≤ i → getD (n .bytes) i 0 ≡ 0

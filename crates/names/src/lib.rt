@@ -1,6 +1,6 @@
 // Names: compared by their bytes, and kept by value.
-ghost use mathlib.Core.Path.{_≡_};
 ghost use Prim.Native.Nat.{_+_, _≤_};
+ghost use mathlib.Core.Path.{_≡_};
 ghost use lib.ListN.{length};
 ghost use Rattle.rules.specs.RoomAndSoundLedger.{order, same, longestName};
 ghost use Rattle.rules.specs.SnapshotsMigrationCertificates.{nameBytes};

@@ -20,6 +20,6 @@ abbrev pub signOf : ℤ → Sign
 signOf (pos n) = Natural n
 signOf (negsuc n) = Negative
 
--- "delta above remaining gives 8; else remaining falls by delta (rises when delta is negative)"
+-- document 01, Account rules, commit: a delta past remaining is an overrun, any other is taken off, so that one below 0 adds
 abbrev pub remainderOf : ℕ → ℤ → Remainder
 remainderOf remaining delta = cond (ltZ (pos remaining) delta) Overrun (Left (natural (pos remaining -ℤ delta)))

@@ -1,6 +1,6 @@
 // Numbers: little-endian in lent bytes, and amounts of money.
-ghost use mathlib.Core.Path.{_≡_};
 ghost use Prim.Native.Nat.{_≤_};
+ghost use mathlib.Core.Path.{_≡_};
 ghost use lib.IntN.{pos, _-ℤ_};
 ghost use lib.ListN.{length};
 ghost use Rattle.rules.specs.RoomAndSoundLedger.{M};
@@ -127,8 +127,7 @@ pub fn delta(actual: u64, reserved: u64) -> Microcents
     Microcents(actual as i64 - reserved as i64)
 }
 
-// "delta above remaining gives 8; else remaining falls by delta (rises when delta is negative)": a delta that returns money is
-// negated and added.
+// Document 01, Account rules, commit: a delta past remaining is an overrun, any other is taken off. One that returns money is negated and added.
 pub fn less_delta(remaining: u64, delta: Microcents) -> Remainder
     requires { ⌜ natural (pos remaining -ℤ delta .0) ≤ M ⌝ }
     ensures { λ r. ⌜ r ≡ remainderOf remaining (delta .0) ⌝ }

@@ -2,8 +2,8 @@
 use moves::Seat;
 use numbers::Microcents;
 use numbers::Sum;
-ghost use mathlib.Core.Path.{_≡_};
 ghost use Prim.Native.Nat.{_≤_};
+ghost use mathlib.Core.Path.{_≡_};
 ghost use Rattle.rules.specs.RoomAndSoundLedger.{M, committedTotal};
 ghost use Rattle.rules.specs.AccountRules.{readRemaining, readInitial, readCommitted, readReserved, operate, readCommittedTotal, readAccounts, readLive, readLastVersion, readCommittedSince, readLedger};
 ghost use Rattle.room.specs.Room.{SoundRoom, OfRoom};
@@ -39,7 +39,7 @@ fn seek(room: &[u8], part: &[u8]) -> Sought
     Sought::Seat(seats::seat_at(room, found))
 }
 
-// "remaining, initial, committed of a name without an account give 3"
+// Document 01, Account rules, reads: without an account three of the four amounts are refused with 3.
 fn of_account(account: u8, amount: u64) -> Reading
     requires { ⌜ amount ≤ M ⌝ }
     ensures { λ r. ⌜ readingReply r ≡ accountReply account amount ⌝ }
@@ -156,7 +156,7 @@ pub fn last_version(room: &[u8]) -> u64
     head.last_version
 }
 
-// "committed since (the committed total, or M if larger, less the baseline)"
+// Document 01, Account rules, reads: by how much the committed total, cut off at M, exceeds the baseline.
 pub fn committed_since(room: &[u8]) -> Microcents
     requires { ⌜ SoundRoom (now room) ⌝ }
     ensures { λ r. ⌜ OfRoom (now (room .entry)) (λ L. amountReply r ≡ readLedger L readCommittedSince) ⌝ }

@@ -1,7 +1,7 @@
 // Fixed-width records in one lent slice of bytes: a head, places, bookings. Where each field starts is said once, in the constants below.
 use names::Name;
-ghost use mathlib.Core.Path.{_≡_};
 ghost use Prim.Native.Nat.{_+_, _*_, _^_, _≤_, _<_};
+ghost use mathlib.Core.Path.{_≡_};
 ghost use lib.ListN.{length};
 ghost use Rattle.rules.specs.RoomAndSoundLedger.{longestName};
 ghost use Rattle.records.specs.Layout.{placeStart, ledgerHeadOffset, ledgerHeadSize, countsOffset, capacityOffset, pairSize, placeSize, bookingSize, headSize};
@@ -261,7 +261,9 @@ pub fn store_counts(room: &mut [u8], used: u64, live: u64)
 // For a fresh room: what it holds room for is written once.
 pub fn store_sizes(room: &mut [u8], sizes: Sizes)
     requires { ⌜ headSize ≤ length (now room) ⌝ }
-    ensures stored { λ _. ⌜ now (room .exit) ≡ put countsOffset pairSize (put capacityOffset pairSize (now (room .entry)) (pairBytes (sizes .names) (sizes .reservations))) (pairBytes (sizes .used) (sizes .live)) ⌝ }
+    ensures stored { λ _. ⌜ now (room .exit)
+        ≡ put countsOffset pairSize (put capacityOffset pairSize (now (room .entry)) (pairBytes (sizes .names) (sizes .reservations)))
+        (pairBytes (sizes .used) (sizes .live)) ⌝ }
     ensures fits { λ _. ⌜ SizesFit sizes ⌝ }
 {
     numbers::write8(&mut room[NAMES_OFFSET..RESERVATIONS_OFFSET], sizes.names);

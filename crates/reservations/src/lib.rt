@@ -12,7 +12,6 @@ use room::Found;
 ghost use mathlib.Core.Path.{_≡_};
 ghost use mathlib.Core.Option.{none};
 ghost use Prim.Native.Nat.{_≤_, _<_};
-ghost use lib.ListN.{length};
 ghost use Rattle.rules.specs.RoomAndSoundLedger.{M};
 ghost use Rattle.rules.specs.AnswerNumbers.{Refusal, replyOf};
 ghost use Rattle.rules.specs.AccountRules.{leave, commitRule, reserve, commit, release, operate};
@@ -20,6 +19,7 @@ ghost use Rattle.heads.specs.Heads.{afterDraw};
 ghost use Rattle.room.specs.Contents.{contentsOf, Sized, withHead, removedBooking};
 ghost use Rattle.room.specs.Room.{SoundRoom, Performs, OfRoom};
 ghost use Rattle.room.specs.Seats.{withSeat};
+ghost use Rattle.tables.specs.Steps.{Becomes};
 ghost use Rattle.reservations.specs.Answers.{reservedReply, committedReply, releasedReply};
 ghost use Rattle.reservations.specs.Steps.{Booked, dueAt};
 
@@ -62,13 +62,13 @@ struct Due {
 // An id is drawn: next id grows by 1. A reserve that finds next id M is refused before, so that an id is left here.
 fn draw(room: &mut [u8], head: Head)
     requires { ⌜ Sized (now room) × (head .«next_id» < M) ⌝ }
-    ensures { λ _. ⌜ (length (now (room .exit)) ≡ length (now (room .entry))) × (contentsOf (now (room .exit)) ≡ withHead (afterDraw head) (contentsOf (now (room .entry)))) ⌝ }
+    ensures { λ _. ⌜ Becomes (withHead (afterDraw head)) (now (room .entry)) (now (room .exit)) ⌝ }
 {
     let drawn = heads::after_draw(head);
     tables::put_head(room, drawn.head);
 }
 
-// "R live gives 21, no id drawn; else the id drawn is the old next id."
+// Document 01, Account rules, reserve, its last two answers: a full table refuses before an id is drawn; else the booking has next id as it stood.
 fn book(room: &mut [u8], i: usize, seat: Seat, cost: u64, head: Head) -> Reserved
     requires { ⌜ Sized (now room) × (i < contentsOf (now room) .sizes .used) × (seat .remaining ≤ M) × (head .«next_id» < M) ⌝ }
     ensures { λ r. ⌜ Booked i seat cost head (now (room .entry)) r (now (room .exit)) ⌝ }
@@ -142,7 +142,7 @@ fn due_at(room: &[u8], j: usize) -> Due
 // The reservation at j ends, and its airline's seat is now this one.
 fn end(room: &mut [u8], j: usize, owner: usize, seat: Seat)
     requires { ⌜ Sized (now room) × (owner < contentsOf (now room) .sizes .used) × (j < contentsOf (now room) .sizes .live) ⌝ }
-    ensures { λ _. ⌜ (length (now (room .exit)) ≡ length (now (room .entry))) × (contentsOf (now (room .exit)) ≡ removedBooking j (withSeat owner seat (contentsOf (now (room .entry))))) ⌝ }
+    ensures { λ _. ⌜ Becomes (λ c. removedBooking j (withSeat owner seat c)) (now (room .entry)) (now (room .exit)) ⌝ }
 {
     seats::put_seat(room, owner, seat);
     tables::remove_booking(room, j);

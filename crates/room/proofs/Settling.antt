@@ -20,7 +20,7 @@ module _ (L : Ledger) (sound : Sound L) (a : Name) (s : Seat) (known : SeatSound
   reseatedLedger : Ledger
   reseatedLedger = withPlaces L (seated a (meaning s) (L .places))
 
-  -- "else the id drawn is the old next id"
+  -- document 01, Account rules, reserve: the booking has next id as it stood
   pub booked-contents : (cost : ℕ) → length (L .bookings) < L .R
       → withHead (headIn (drawn L)) (appendedBooking (record { id = L .nextId; amount = cost; owner = placeNumber a (L .places) }) (withSeat (placeNumber a (L .places)) s (contentsIn L)))
       ≡ contentsIn (withBookings (withPlaces (drawn L) (seated a (meaning s) (L .places))) (L .bookings ++ record { id = L .nextId; name = a; amount = cost } ∷ []))

@@ -30,6 +30,7 @@ use Rattle.room.specs.declared.Found.the-variants.{At, Absent}
 use Rattle.room.proofs.Numbers.{found-number, number-below, place-for-at-most}
 use Rattle.room.proofs.Seating.{seat-kept, seat-opened, seat-freed, seat-nowhere}
 use Rattle.room.proofs.SoundRoom.{sizes-are, places-are, bookings-are}
+use Rattle.tables.specs.Steps.{CanRise}
 use Rattle.seats.specs.Writing.{WritesSeat}
 use Rattle.seats.specs.declared.Written.the-variants.{Done, NamesFull}
 
@@ -78,11 +79,11 @@ module _ (L : Ledger) (xs : List ℕ) (room : IsRoom xs L) where
   sizes-read t e = let q = e ∙ sizes-are xs L room in (ap (λ t. t .used) q, ap (λ t. t .names) q)
 
   -- the number of an owner's place is small
-  pub owners-small : All (λ b. b .owner < 65535) (liveBookings (contentsOf xs))
+  pub owners-small : All CanRise (liveBookings (contentsOf xs))
   owners-small =
       rw (bookings-are xs L room)
-      (all-images (bookingRecord ps) (λ b. b .owner < 65535) (L .bookings)
-      (all-map (λ b. hasAccount (seatIn (b .name) ps .account) ≡ true) (λ b. placeNumber (b .name) ps < 65535)
+      (all-images (bookingRecord ps) CanRise (L .bookings)
+      (all-map (λ b. hasAccount (seatIn (b .name) ps .account) ≡ true) (λ b. CanRise (bookingRecord ps b))
       (λ b h. omega (arith, number-below (b .name) ps (account-holds (b .name) ps h), room .sound .names-fit, room .sound .names-in-range)) (L .bookings) (room .sound .accounts-exist)))
 
   pub one-more : length ps < L .T → contentsOf xs .sizes .used < contentsOf xs .sizes .names

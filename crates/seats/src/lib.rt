@@ -13,6 +13,7 @@ ghost use Rattle.moves.specs.Moves.{meaning, SeatSound};
 ghost use Rattle.room.specs.Contents.{contentsOf, Sized, usedPlaces, placeOfName};
 ghost use Rattle.room.specs.Room.{SoundRoom, OfRoom};
 ghost use Rattle.room.specs.Seats.{FoundIn, seatFound, withSeat};
+ghost use Rattle.tables.specs.Steps.{Becomes};
 ghost use Rattle.seats.specs.Writing.{WritesSeat};
 
 // What a write comes to: the ledger has room for the name, or it has not.
@@ -50,7 +51,7 @@ pub fn seat_at(room: &[u8], found: Found) -> Seat
 // The seat of the place at i; its name stays.
 pub fn put_seat(room: &mut [u8], i: usize, seat: Seat)
     requires { ⌜ Sized (now room) × (i < contentsOf (now room) .sizes .used) ⌝ }
-    ensures { λ _. ⌜ (length (now (room .exit)) ≡ length (now (room .entry))) × (contentsOf (now (room .exit)) ≡ withSeat i seat (contentsOf (now (room .entry)))) ⌝ }
+    ensures { λ _. ⌜ Becomes (withSeat i seat) (now (room .entry)) (now (room .exit)) ⌝ }
 {
     let old = records::load_place(room, i);
     let name = old.name;
@@ -66,16 +67,17 @@ pub fn put_seat(room: &mut [u8], i: usize, seat: Seat)
     tables::put_place(room, i, place);
 }
 
-// "A name holds a place while it has an account or a limit"
+// Document 01, Room and the sound ledger: with neither an account nor a limit a name needs no place.
 fn is_vacant(seat: Seat) -> bool
     ensures { λ r. ⌜ r ≡ isVacant (meaning seat) ⌝ }
 {
     seat.account == 0 && seat.limit == 0
 }
 
-// "20 when the name has no place and T are held"
+// Document 01, Account rules, ensure: a new name is refused with 20 where every place is taken.
 fn open_place(room: &mut [u8], part: &[u8], seat: Seat) -> Written
-    requires { ⌜ SoundRoom (now room) × (length (now part) ≤ longestName) × SeatSound seat × (isVacant (meaning seat) ≡ false) × (OfRoom (now room) (λ L. holdsPlace (now part) (L .places) ≡ false)) ⌝ }
+    requires { ⌜ SoundRoom (now room) × (length (now part) ≤ longestName) × SeatSound seat × (isVacant (meaning seat) ≡ false)
+        × (OfRoom (now room) (λ L. holdsPlace (now part) (L .places) ≡ false)) ⌝ }
     ensures { λ r. ⌜ OfRoom (now (room .entry)) (λ L. WritesSeat (now (part .entry)) seat L (now (room .entry)) (now (room .exit)) r) ⌝ }
 {
     let sizes = records::load_sizes(room);
@@ -99,7 +101,9 @@ fn open_place(room: &mut [u8], part: &[u8], seat: Seat) -> Written
 
 // A vacant seat frees the name's place; another is written where the name stands, or put in.
 pub fn write_seat(room: &mut [u8], part: &[u8], found: Found, seat: Seat) -> Written
-    requires { ⌜ SoundRoom (now room) × (length (now part) ≤ longestName) × SeatSound seat × (found ≡ placeOfName (now part) (usedPlaces (contentsOf (now room)))) × (OfRoom (now room) (λ L. isVacant (meaning seat) ≡ true → seatIn (now part) (L .places) .account ≡ none)) ⌝ }
+    requires { ⌜ SoundRoom (now room) × (length (now part) ≤ longestName) × SeatSound seat
+        × (found ≡ placeOfName (now part) (usedPlaces (contentsOf (now room))))
+        × (OfRoom (now room) (λ L. isVacant (meaning seat) ≡ true → seatIn (now part) (L .places) .account ≡ none)) ⌝ }
     ensures { λ r. ⌜ OfRoom (now (room .entry)) (λ L. WritesSeat (now (part .entry)) seat L (now (room .entry)) (now (room .exit)) r) ⌝ }
 {
     let Found::At(i) = found else {

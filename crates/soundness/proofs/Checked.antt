@@ -10,7 +10,7 @@ use Rattle.room.specs.Room.{IsRoom, SoundRoom, Performed, Answers}
 use Rattle.soundness.specs.Facts.{Decides}
 
 module _ (f : Ledger → Outcome) (before : List ℕ) (r : Bool) (decides : Decides (SoundRoom before) r) where
-  -- "24 is given exactly when it isn't sound", and nothing changes
+  -- document 01, Answer numbers: memory that is not sound is refused with 24, and nothing changes
   pub refused : not r ≡ true → Answers f before (replyOf UnsoundLedger) before
   refused e = record {
     sound-room = λ L room. absurd (decides .fails (not-true r e) (record { ledger = L; is-room = room }));

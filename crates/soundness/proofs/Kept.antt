@@ -11,8 +11,9 @@ use Rattle.moves.specs.Moves.{accountOf, meaning, kept, keptSeat}
 use Rattle.moves.specs.declared.Seat.{Seat}
 use Rattle.records.specs.declared.Place.{Place}
 use Rattle.room.specs.Room.{placeRecord}
+use Rattle.room.specs.Seats.{seatOfPlace}
 use Rattle.room.proofs.Decoding.{kept-meaning, placeIn}
-use Rattle.soundness.specs.Facts.{seatAt, PlaceSound}
+use Rattle.soundness.specs.Facts.{PlaceSound}
 
 -- what an account has reserved; without one, nothing
 abbrev pub reservedOf : Option Account → ℕ
@@ -33,22 +34,22 @@ module _ (p : Place) (sound : PlaceSound p) where
   pub record-kept : placeRecord (placeIn p) ≡ p
   unfolding placeRecord
   record-kept =
-      let s : keptSeat (meaning (seatAt p)) ≡ seatAt p = sound .seat .form in
+      let s : keptSeat (meaning (seatOfPlace p)) ≡ seatOfPlace p = sound .seat .form in
       let n : stored (spelled (p .name)) ≡ p .name = stored-spelled (p .name) (sound .name) in
       λ i. record { initial = s i .initial; remaining = s i .remaining; reserved = s i .reserved; committed = s i .committed; limit = s i .limit; account = s i .account; name = n i }
 
-  pub record-reserved : p .reserved ≡ reservedOf (accountOf (seatAt p))
+  pub record-reserved : p .reserved ≡ reservedOf (accountOf (seatOfPlace p))
   unfolding keptSeat
-  record-reserved = sym (ap (λ (s : Seat). s .reserved) (sound .seat .form)) ∙ kept-reserved (accountOf (seatAt p)) (p .limit)
+  record-reserved = sym (ap (λ (s : Seat). s .reserved) (sound .seat .form)) ∙ kept-reserved (accountOf (seatOfPlace p)) (p .limit)
 
-  pub record-committed : p .committed ≡ committedOf (accountOf (seatAt p))
+  pub record-committed : p .committed ≡ committedOf (accountOf (seatOfPlace p))
   unfolding keptSeat
-  record-committed = sym (ap (λ (s : Seat). s .committed) (sound .seat .form)) ∙ kept-committed (accountOf (seatAt p)) (p .limit)
+  record-committed = sym (ap (λ (s : Seat). s .committed) (sound .seat .form)) ∙ kept-committed (accountOf (seatOfPlace p)) (p .limit)
 
 -- ── the record of a place ──────────────────────────────────────────────────────────────────────
 
 module _ (p : RulesPlace) where
-  meaning-kept : meaning (seatAt (placeRecord p)) ≡ p .seat
+  meaning-kept : meaning (seatOfPlace (placeRecord p)) ≡ p .seat
   unfolding placeRecord keptSeat
   meaning-kept = kept-meaning (p .seat .account) (p .seat .limit)
 

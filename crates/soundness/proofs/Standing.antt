@@ -3,7 +3,7 @@ use mathlib.Core.Path.{_≡_, sym, ap, _∙_}
 use mathlib.Core.List.{List}
 use Prim.Native.Nat.{ℕ, _+_, _*_, _≤_, _<_}
 use native.Mathlib.Omega.{arith}
-use lib.ListN.{length, take}
+use lib.ListN.{length}
 use Rattle.rules.specs.RoomAndSoundLedger.{longestName}
 use Rattle.records.specs.Layout.{placeStart, nameBytesStart, placeSize, nameBytesOffset}
 use Rattle.records.specs.Rows.{row}

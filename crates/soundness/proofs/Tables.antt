@@ -1,11 +1,11 @@
--- A table read row by row.
+-- A table read row by row: what holds of all its rows, or of each two of them, grows by one row and holds of each.
 use mathlib.Core.Path.{_≡_, sym, ap, _∙_, subst}
 use mathlib.Core.List.{List, [], _∷_, _++_}
-use Prim.Native.Nat.{ℕ, zero, suc, _+_, _*_, _≤_, _<_}
+use Prim.Native.Nat.{ℕ, zero, suc, _+_, _*_, _<_}
 use native.Mathlib.Nat.{not-suc-le-zero, le-of-suc-le-suc}
 use native.Mathlib.Numerals.{add-one}
 use native.Mathlib.Omega.{arith}
-use lib.ListN.{length, getD, take, drop}
+use lib.ListN.{length, getD, drop}
 use lib.Seq.{take-all, take-suc, drop-cons}
 use Rattle.rules.specs.Lists.{All, Pairwise}
 use Rattle.records.specs.Rows.{row, table}

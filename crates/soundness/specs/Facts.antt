@@ -10,7 +10,6 @@ use Rattle.rules.specs.Lists.{sum, All, Pairwise}
 use Rattle.rules.specs.RoomAndSoundLedger.{M, isVacant, InRange, hasTag, fenceOf, mostNames, mostReservations}
 use Rattle.names.specs.Names.{IsStored}
 use Rattle.moves.specs.Moves.{meaning, SeatSound}
-use Rattle.moves.specs.declared.Seat.{Seat}
 use Rattle.records.specs.Layout.{headSize}
 use Rattle.records.specs.Records.{sizesOf, headOf}
 use Rattle.records.specs.declared.Place.{Place}
@@ -18,6 +17,7 @@ use Rattle.records.specs.declared.Booking.{Booking}
 use Rattle.records.specs.declared.Head.{Head}
 use Rattle.records.specs.declared.Sizes.{Sizes}
 use Rattle.room.specs.Contents.{Contents, contentsOf, roomSize, usedPlaces, liveBookings, emptyPlace, emptyBooking, NameBefore}
+use Rattle.room.specs.Seats.{seatOfPlace}
 
 -- an answer of a check that says exactly whether something holds
 pub record Decides (P : Type 0) (r : Bool) : Type 0 where
@@ -39,13 +39,10 @@ pub record HeadSound (h : Head) : Type 0 where
   pub last-version : VersionSound (h .«last_version»)
   pub baseline : h .baseline ≤ M
 
-abbrev pub seatAt : Place → Seat
-seatAt p = record { initial = p .initial; remaining = p .remaining; reserved = p .reserved; committed = p .committed; limit = p .limit; account = p .account }
-
 pub record PlaceSound (p : Place) : Type 0 where
   pub name : IsStored (p .name)
-  pub seat : SeatSound (seatAt p)
-  pub held : isVacant (meaning (seatAt p)) ≡ false
+  pub seat : SeatSound (seatOfPlace p)
+  pub held : isVacant (meaning (seatOfPlace p)) ≡ false
 
 pub record PlacesSound (base : ℕ) (ps : List Place) : Type 0 where
   pub each : All PlaceSound ps
@@ -65,7 +62,7 @@ pub record BookingsSound (next used : ℕ) (bs : List Booking) : Type 0 where
   pub each : All (BookingSound next used) bs
   pub ascend : Pairwise (λ b c. b .id < c .id) bs
 
--- "each account's reserved is the sum of its live reservations"
+-- document 01, Room and the sound ledger: what a place has reserved is what its bookings add up to
 abbrev pub ReservedIsSum : (used : ℕ) → List Place → List Booking → Type 0
 ReservedIsSum used ps bs = (i : ℕ) → i < used → getD ps i emptyPlace .reserved ≡ sum (shareOf i) bs
 

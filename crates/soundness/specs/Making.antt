@@ -1,4 +1,4 @@
--- Document 01: "making one overwrites the room, or gives 24 exactly when T or R is out of range". Our decision: also when the memory lent is not of
+-- Document 01, Room and the sound ledger, making a fresh ledger: T or R out of range is refused with 24. Our decision: so is memory that is not of
 -- just the size that they ask for.
 use mathlib.Core.Path.{_≡_}
 use mathlib.Core.List.{List}

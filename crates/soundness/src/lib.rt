@@ -16,7 +16,8 @@ ghost use Rattle.records.specs.Rows.{row};
 ghost use Rattle.records.specs.Records.{sizesOf, headOf, places, bookings};
 ghost use Rattle.room.specs.Contents.{contentsOf};
 ghost use Rattle.room.specs.Room.{SoundRoom};
-ghost use Rattle.soundness.specs.Facts.{Decides, SizesSound, VersionSound, HeadSound, seatAt, PlacesSound, TablesSound, RoomFacts};
+ghost use Rattle.room.specs.Seats.{seatOfPlace};
+ghost use Rattle.soundness.specs.Facts.{Decides, SizesSound, VersionSound, HeadSound, PlacesSound, TablesSound, RoomFacts};
 ghost use Rattle.soundness.specs.Steps.{Leaves, ZeroBelow, placeAt, NameFollows, Noted, Follows, Booked};
 ghost use Rattle.soundness.specs.Making.{Makes};
 
@@ -58,7 +59,7 @@ fn sizes_sound(sizes: Sizes, bytes: usize) -> bool
             + records::BOOKING_SIZE * (sizes.reservations as usize)
 }
 
-// "last version is 0 or has bit 63 set and the low 63 bits not zero"
+// Document 01, Room and the sound ledger: no version yet, or one that is tagged and has a fence.
 fn version_sound(version: u64) -> bool
     ensures { λ r. ⌜ Decides (VersionSound version) r ⌝ }
 {
@@ -84,7 +85,7 @@ fn head_sound(head: Head) -> bool
     version_sound(head.last_version)
 }
 
-// "remaining, reserved and committed at least 0, adding up exactly to initial, itself at most M": by differences, so that no sum can wrap
+// Document 01, Room and the sound ledger, the amounts of an account: by differences, so that no sum can wrap.
 fn adds_up(place: Place) -> bool
     ensures { λ r. ⌜ Decides ((place .remaining + place .reserved + place .committed ≡ place .initial) × (place .initial ≤ M)) r ⌝ }
 {
@@ -101,9 +102,9 @@ fn adds_up(place: Place) -> bool
     held - place.reserved == place.committed
 }
 
-// "a name without an account has zero amounts and a positive limit": amounts that add up to zero are zero
+// Document 01, Room and the sound ledger, a name that has only a limit: amounts that add up to zero are zero.
 fn amounts_sound(place: Place) -> bool
-    ensures { λ r. ⌜ Decides (SeatSound (seatAt place) × (isVacant (meaning (seatAt place)) ≡ false)) r ⌝ }
+    ensures { λ r. ⌜ Decides (SeatSound (seatOfPlace place) × (isVacant (meaning (seatOfPlace place)) ≡ false)) r ⌝ }
 {
     if rules::M < place.limit {
         return false;
@@ -246,7 +247,7 @@ fn is_zero(part: &[u8]) -> bool
     joined == 0
 }
 
-// A live booking: "strictly ascending ids from 1 to below next id, a positive amount"; its owner is a place in use.
+// A live booking: an id past the one before it and below next id, an amount that is not 0, and for its owner a place in use.
 fn booking_sound(booking: Booking, last: u64, next_id: u64, used: u64) -> bool
     ensures { λ r. ⌜ Decides (Follows last «next_id» used booking) r ⌝ }
 {
@@ -273,7 +274,8 @@ fn bookings_sound(
 ) -> bool
     requires within { ⌜ base + bookingSize * sizes .live ≤ length (now room) ⌝ }
     requires few { ⌜ sizes .used ≤ length (now reserved) ⌝ }
-    ensures { λ r. ⌜ Leaves (Booked 0 «next_id» (sizes .used) (now (reserved .entry)) (bookings base (sizes .live) (now (room .entry)))) (ZeroBelow (sizes .used) (now (reserved .exit))) r ⌝ }
+    ensures { λ r. ⌜ Leaves (Booked 0 «next_id» (sizes .used) (now (reserved .entry)) (bookings base (sizes .live) (now (room .entry))))
+        (ZeroBelow (sizes .used) (now (reserved .exit))) r ⌝ }
 {
     let live = sizes.live as usize;
     let mut last = 0;
@@ -294,7 +296,7 @@ fn bookings_sound(
     true
 }
 
-// "each account's reserved is the sum of its live reservations": nothing is left.
+// What the bookings took is all that was reserved (document 01, Room and the sound ledger): nothing is left.
 fn nothing_left(reserved: &[u64], used: usize) -> bool
     requires { ⌜ used ≤ length (now reserved) ⌝ }
     ensures { λ r. ⌜ Decides (ZeroBelow used (now (reserved .entry))) r ⌝ }
@@ -375,7 +377,7 @@ fn clear(room: &mut [u8])
     }
 }
 
-// "A fresh ledger has no names, next id 1, last version 0, baseline 0": over zeros only the sizes and the next id are left to write.
+// A fresh ledger (document 01, Room and the sound ledger): over zeros only the sizes and the next id are left to write.
 pub fn make(room: &mut [u8], names: u64, reservations: u64) -> Made
     ensures { λ r. ⌜ Makes names reservations (now (room .entry)) r (now (room .exit)) ⌝ }
 {

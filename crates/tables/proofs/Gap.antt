@@ -9,7 +9,7 @@ use native.Mathlib.Omega.{arith}
 use lib.ListN.{length, getD, set, take, drop, length-drop, take-append-drop}
 use lib.Seq.{paste, paste-suc, drop-paste, getD-drop, take-all, take-nil, drop-cons, drop-drop, drop-append-le}
 use Rattle.records.specs.Rows.{row, put, rows, table}
-use Rattle.records.proofs.Rows.{row-front, row-length, put-after, row-put, rows-within, table-length, table-apart, table-take, table-drop}
+use Rattle.records.proofs.Rows.{row-length, put-after, row-put, rows-within, table-length, table-apart, table-take, table-drop}
 use Rattle.room.specs.Contents.{closed}
 use Rattle.tables.specs.Steps.{movedDown}
 

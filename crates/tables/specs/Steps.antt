@@ -1,7 +1,7 @@
 -- The contents between the first store of a step on the tables and its last.
 use mathlib.Core.Path.{_≡_}
 use mathlib.Core.List.{List}
-use Prim.Native.Nat.{ℕ, pred}
+use Prim.Native.Nat.{ℕ, pred, _<_}
 use lib.ListN.{length, getD, set}
 use Rattle.records.specs.declared.Place.{Place}
 use Rattle.records.specs.declared.Booking.{Booking}
@@ -19,6 +19,10 @@ onBookings f c = contents (c .sizes) (c .head) (c .places) (f (c .bookings))
 
 abbrev pub withBooking : ℕ → Booking → Contents → Contents
 withBooking i b = onBookings (λ bs. set bs i b)
+
+-- a booking whose owner, raised by one, still fits its two bytes
+abbrev pub CanRise : Booking → Type 0
+CanRise b = b .owner < 65535
 
 abbrev pub onCounts : (used live : ℕ) → Contents → Contents
 onCounts used live c = contents (withCounts used live (c .sizes)) (c .head) (c .places) (c .bookings)

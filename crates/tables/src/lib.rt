@@ -10,18 +10,18 @@ ghost use lib.ListN.{length, take, drop};
 ghost use Rattle.rules.specs.Lists.{All};
 ghost use Rattle.records.specs.Layout.{bookingSize};
 ghost use Rattle.room.specs.Contents.{contentsOf, Sized, baseOf, emptyPlace, emptyBooking, withOwner, raised, lowered, renumbered, liveBookings, withHead, withPlace, insertedPlace, freedPlace, appendedBooking, removedBooking};
-ghost use Rattle.tables.specs.Steps.{Becomes, onPlaces, onBookings, movedUp, movedDown};
+ghost use Rattle.tables.specs.Steps.{Becomes, onPlaces, onBookings, movedUp, movedDown, CanRise};
 
 pub fn put_head(room: &mut [u8], head: Head)
     requires { ⌜ Sized (now room) ⌝ }
-    ensures { λ _. ⌜ (length (now (room .exit)) ≡ length (now (room .entry))) × (contentsOf (now (room .exit)) ≡ withHead head (contentsOf (now (room .entry)))) ⌝ }
+    ensures { λ _. ⌜ Becomes (withHead head) (now (room .entry)) (now (room .exit)) ⌝ }
 {
     records::store_head(room, head);
 }
 
 pub fn put_place(room: &mut [u8], i: usize, place: Place)
     requires { ⌜ Sized (now room) × (i < contentsOf (now room) .sizes .used) ⌝ }
-    ensures { λ _. ⌜ (length (now (room .exit)) ≡ length (now (room .entry))) × (contentsOf (now (room .exit)) ≡ withPlace i place (contentsOf (now (room .entry)))) ⌝ }
+    ensures { λ _. ⌜ Becomes (withPlace i place) (now (room .entry)) (now (room .exit)) ⌝ }
 {
     records::store_place(room, i, place);
 }
@@ -69,7 +69,8 @@ fn close_gap(part: &mut [u8])
 
 // Bookings behind i come one nearer. What stood last stands there still.
 fn move_bookings_down(room: &mut [u8], base: usize, i: usize, live: usize)
-    requires { ⌜ Sized (now room) × (base ≡ baseOf (contentsOf (now room) .sizes .names)) × (i < live) × (live ≤ contentsOf (now room) .sizes .reservations) ⌝ }
+    requires { ⌜ Sized (now room) × (base ≡ baseOf (contentsOf (now room) .sizes .names)) × (i < live)
+        × (live ≤ contentsOf (now room) .sizes .reservations) ⌝ }
     ensures { λ _. ⌜ Becomes (onBookings (movedDown i live emptyBooking)) (now (room .entry)) (now (room .exit)) ⌝ }
 {
     let from = base + records::BOOKING_SIZE * i;
@@ -89,7 +90,8 @@ fn with_owner(booking: Booking, owner: u64) -> Booking
 
 // Owners from place i on get the next number. Only bookings that change are stored.
 fn raise_owners(room: &mut [u8], base: usize, live: usize, i: u64)
-    requires { ⌜ Sized (now room) × (base ≡ baseOf (contentsOf (now room) .sizes .names)) × (live ≤ contentsOf (now room) .sizes .reservations) × All (λ b. b .owner < 65535) (take live (contentsOf (now room) .bookings)) ⌝ }
+    requires { ⌜ Sized (now room) × (base ≡ baseOf (contentsOf (now room) .sizes .names)) × (live ≤ contentsOf (now room) .sizes .reservations)
+        × All CanRise (take live (contentsOf (now room) .bookings)) ⌝ }
     ensures { λ _. ⌜ Becomes (onBookings (renumbered (raised i) live)) (now (room .entry)) (now (room .exit)) ⌝ }
 {
     let mut j = 0;
@@ -121,8 +123,9 @@ fn lower_owners(room: &mut [u8], base: usize, live: usize, i: u64)
 
 // A place put in at i.
 pub fn insert_place(room: &mut [u8], i: usize, place: Place)
-    requires { ⌜ Sized (now room) × (i ≤ contentsOf (now room) .sizes .used) × (contentsOf (now room) .sizes .used < contentsOf (now room) .sizes .names) × All (λ b. b .owner < 65535) (liveBookings (contentsOf (now room))) ⌝ }
-    ensures { λ _. ⌜ (length (now (room .exit)) ≡ length (now (room .entry))) × (contentsOf (now (room .exit)) ≡ insertedPlace i place (contentsOf (now (room .entry)))) ⌝ }
+    requires { ⌜ Sized (now room) × (i ≤ contentsOf (now room) .sizes .used) × (contentsOf (now room) .sizes .used < contentsOf (now room) .sizes .names)
+        × All CanRise (liveBookings (contentsOf (now room))) ⌝ }
+    ensures { λ _. ⌜ Becomes (insertedPlace i place) (now (room .entry)) (now (room .exit)) ⌝ }
 {
     let sizes = records::load_sizes(room);
     let base = records::HEAD_SIZE + records::PLACE_SIZE * (sizes.names as usize);
@@ -137,7 +140,7 @@ pub fn insert_place(room: &mut [u8], i: usize, place: Place)
 // The place at i taken out; the last one is then empty.
 pub fn free_place(room: &mut [u8], i: usize)
     requires { ⌜ Sized (now room) × (i < contentsOf (now room) .sizes .used) ⌝ }
-    ensures { λ _. ⌜ (length (now (room .exit)) ≡ length (now (room .entry))) × (contentsOf (now (room .exit)) ≡ freedPlace i (contentsOf (now (room .entry)))) ⌝ }
+    ensures { λ _. ⌜ Becomes (freedPlace i) (now (room .entry)) (now (room .exit)) ⌝ }
 {
     let sizes = records::load_sizes(room);
     let base = records::HEAD_SIZE + records::PLACE_SIZE * (sizes.names as usize);
@@ -164,7 +167,7 @@ pub fn free_place(room: &mut [u8], i: usize)
 
 pub fn append_booking(room: &mut [u8], booking: Booking)
     requires { ⌜ Sized (now room) × (contentsOf (now room) .sizes .live < contentsOf (now room) .sizes .reservations) × (booking .owner < 65536) ⌝ }
-    ensures { λ _. ⌜ (length (now (room .exit)) ≡ length (now (room .entry))) × (contentsOf (now (room .exit)) ≡ appendedBooking booking (contentsOf (now (room .entry)))) ⌝ }
+    ensures { λ _. ⌜ Becomes (appendedBooking booking) (now (room .entry)) (now (room .exit)) ⌝ }
 {
     let sizes = records::load_sizes(room);
     let base = records::HEAD_SIZE + records::PLACE_SIZE * (sizes.names as usize);
@@ -176,7 +179,7 @@ pub fn append_booking(room: &mut [u8], booking: Booking)
 // The booking at i taken out; the last one is then empty.
 pub fn remove_booking(room: &mut [u8], i: usize)
     requires { ⌜ Sized (now room) × (i < contentsOf (now room) .sizes .live) ⌝ }
-    ensures { λ _. ⌜ (length (now (room .exit)) ≡ length (now (room .entry))) × (contentsOf (now (room .exit)) ≡ removedBooking i (contentsOf (now (room .entry)))) ⌝ }
+    ensures { λ _. ⌜ Becomes (removedBooking i) (now (room .entry)) (now (room .exit)) ⌝ }
 {
     let sizes = records::load_sizes(room);
     let base = records::HEAD_SIZE + records::PLACE_SIZE * (sizes.names as usize);

@@ -1,9 +1,10 @@
--- `soundness::amounts_sound` meets its contract.
+-- `soundness::amounts_sound` meets its contract: each test is one clause of a sound seat, by the laws of Seats; past the flag's test the last comparison
+-- decides.
 use native.Mathlib.Omega.{arith}
 use borrow.Author.Needs.{needs}
 use Rattle.rules.specs.RoomAndSoundLedger.{M}
 use Rattle.moves.proofs.Cases.{AmountsAddUp}
-use Rattle.soundness.specs.Facts.{seatAt}
+use Rattle.room.specs.Seats.{seatOfPlace}
 use Rattle.soundness.proofs.Deciding.{refuse, refused, accepted, by-equal, by-unequal}
 use Rattle.soundness.proofs.Seats.{flag-is-one, no-amounts, a-limit, sound-adds-up, held-with-account, held-without-account}
 use Rattle.soundness.proofs.amounts_sound.Statement.{statement}
@@ -16,7 +17,7 @@ returns c = refuse (λ h. omega (arith, h .0 .limit))
 returns-2 : tie.Need-returns-2
 returns-2 c = refuse (λ h. refused (c .before .adds-up .ensures) (c .if2 .taken) (sound-adds-up _ (h .0)))
 
-add-up : (c : tie.Else2) → AmountsAddUp (seatAt (c .before .before .before .before .args .place))
+add-up : (c : tie.Else2) → AmountsAddUp (seatOfPlace (c .before .before .before .before .args .place))
 add-up c = accepted (c .before .adds-up .ensures) (c .if2 .left)
 
 returns-3 : tie.Need-returns-3

@@ -1,6 +1,7 @@
--- `soundness::ascends` meets its contract.
+-- `soundness::ascends` meets its contract: the invariant is that both names agree in the parts passed. The first part that differs decides by the order of
+-- its big-endian number (Words), and where none does, the lengths decide.
 use mathlib.Core.Path.{_≡_, refl, sym, ap, ap₂, _∙_, subst}
-use Prim.Native.Nat.{ℕ, _-_, _*_, _≤_, _<_}
+use Prim.Native.Nat.{_-_, _*_, _≤_, _<_}
 use native.Mathlib.Omega.{arith}
 use borrow.Author.Needs.{needs}
 use lib.Dec.{ltb}

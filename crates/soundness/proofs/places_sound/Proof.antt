@@ -12,8 +12,9 @@ use Rattle.moves.specs.Moves.{meaning, SeatSound}
 use Rattle.records.specs.Records.{placeOf, places}
 use mathlib.Core.Bool.{false}
 use Rattle.records.specs.Layout.{placeSize, headSize}
+use Rattle.room.specs.Seats.{seatOfPlace}
 use Rattle.room.specs.Contents.{NameBefore}
-use Rattle.soundness.specs.Facts.{seatAt, PlaceSound, PlacesSound}
+use Rattle.soundness.specs.Facts.{PlaceSound, PlacesSound}
 use Rattle.soundness.specs.Steps.{placeAt, Noted}
 use Rattle.soundness.proofs.Deciding.{refuse, refused, accepted, by-equal}
 use Rattle.soundness.proofs.Places.{committedBy, sound-more, ascend-more, left-more, noted-more, place-sound, name-follows}
@@ -40,7 +41,7 @@ passed : (c : tie.Else2 Inv-loop μ-loop) → let l = c .before .before .before 
 passed c =
     let amounts = c .before .before in
     let seat =
-    subst (λ p. SeatSound (seatAt p) × (isVacant (meaning (seatAt p)) ≡ false)) (amounts .before .before .load-place .ensures)
+    subst (λ p. SeatSound (seatOfPlace p) × (isVacant (meaning (seatOfPlace p)) ≡ false)) (amounts .before .before .load-place .ensures)
     (accepted (amounts .before .amounts-sound .ensures) (amounts .if1 .left)) in
     record { name = accepted (c .before .name-sound .ensures) (c .if2 .left); seat = seat .0; held = seat .1 }
 

@@ -1,12 +1,12 @@
 -- `tables::insert_place` meets its contract: the place goes where the one at i still stands.
-use Prim.Native.Nat.{_+_, _≤_, _<_}
+use Prim.Native.Nat.{_+_, _≤_}
 use mathlib.Core.Path.{sym, ap, ap₂, subst}
 use native.Mathlib.Omega.{arith}
 use borrow.Author.Needs.{needs}
 use lib.ListN.{length, take}
 use Rattle.rules.specs.Lists.{All}
 use Rattle.room.specs.Contents.{contentsOf, opened, renumbered, raised, emptyPlace, insertedPlace}
-use Rattle.tables.specs.Steps.{Becomes, onPlaces, movedUp}
+use Rattle.tables.specs.Steps.{Becomes, onPlaces, movedUp, CanRise}
 use Rattle.tables.proofs.Moving.{opened-set}
 use Rattle.tables.proofs.Stores.{Loaded, loaded, for-bookings, finished, places-length, place-replaced}
 use Rattle.tables.proofs.Whole.{inserted}
@@ -47,7 +47,7 @@ raise-owners-requires c κs =
     let z = sizes d in
     let b = placed p in
     let ready = for-bookings (opened (s .args .i) (d .load-sizes .result .used) (s .args .place)) (s .args .room .now) (p .store-place .last .0) (s .pre .0) b (d .load-sizes .result) z in
-    (ready .0, ready .1, ready .2, subst (All (λ k. k .owner < 65535)) (ap₂ take (sym (z .live)) (sym (ap (λ k. k .bookings) (b .1)))) (s .pre .3))
+    (ready .0, ready .1, ready .2, subst (All CanRise) (ap₂ take (sym (z .live)) (sym (ap (λ k. k .bookings) (b .1)))) (s .pre .3))
 
 returns : tie.Need-returns
 returns c =

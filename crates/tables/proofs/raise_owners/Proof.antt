@@ -1,12 +1,12 @@
 -- `tables::raise_owners` meets its contract: the owners before j are renumbered.
-use Prim.Native.Nat.{_+_, _-_, _≤_, _<_}
+use Prim.Native.Nat.{_+_, _-_, _≤_}
 use mathlib.Core.Path.{_≡_, refl, sym, ap, subst, _∙_}
 use mathlib.Core.Logic.{⊎-elim}
 use native.Mathlib.Omega.{arith}
 use borrow.Author.Needs.{needs}
 use lib.ListN.{length, getD}
 use Rattle.room.specs.Contents.{contentsOf, emptyBooking, raised, renumbered}
-use Rattle.tables.specs.Steps.{Becomes, onBookings}
+use Rattle.tables.specs.Steps.{Becomes, onBookings, CanRise}
 use Rattle.tables.proofs.Moving.{all-taken, renumbered-none, raised-from, raised-before}
 use Rattle.tables.proofs.Stores.{SizedBy, sized-by, bookings-length, owner-read, owner-stored, owner-kept}
 use Rattle.tables.proofs.raise_owners.Statement.{statement}
@@ -35,12 +35,12 @@ loaded c =
     let room = s .args .room .now in
     owner-read room (l .loop .room) (raised (s .args .i)) (l .loop .j) (l .loop .inv .2) emptyBooking (omega arith) (s .args .base) (s .pre .1) _ (c .load-booking .ensures)
 
-small : (c : tie.After-load-booking Inv-loop μ-loop) → c .load-booking .result .owner < 65535
+small : (c : tie.After-load-booking Inv-loop μ-loop) → CanRise (c .load-booking .result)
 small c =
     let l = c .before .before .before in
     let s = l .before .before in
     let bs = contentsOf (s .args .room .now) .bookings in
-    rw (loaded c) (all-taken (λ b. b .owner < 65535) (s .args .live) bs (l .loop .j) emptyBooking (s .pre .3) (omega arith) (rw bookings-length (omega arith)))
+    rw (loaded c) (all-taken CanRise (s .args .live) bs (l .loop .j) emptyBooking (s .pre .3) (omega arith) (rw bookings-length (omega arith)))
 
 store-booking-requires : tie.Need-store-booking-requires Inv-loop μ-loop
 store-booking-requires c κs =
