@@ -1,4 +1,4 @@
--- A booking among the live ones by its id, and the order by which halving finds it.
+-- A booking among the live ones by its id, by FirstPlace; and that ids which ascend divide at the one sought, which is all that Halving asks.
 use mathlib.Core.Path.{_≡_, refl, sym, subst}
 use mathlib.Core.Logic.{_≢_}
 use mathlib.Core.Bool.{Bool, false}

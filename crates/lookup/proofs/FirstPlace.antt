@@ -1,4 +1,4 @@
--- The first place that passes a test: what a look-up finds, told by reading the list.
+-- The first place that passes a test: `FirstIs` says of an answer what reading the list shows; the answer keeps it, and no other does, by induction.
 use mathlib.Core.Path.{_≡_, refl, ap}
 use mathlib.Core.Bool.{Bool, true, false, cond}
 use mathlib.Core.List.{List, [], _∷_}

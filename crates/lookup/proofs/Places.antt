@@ -1,4 +1,4 @@
--- A name among the places: where it stands, or that it stands at none; and where it would go.
+-- A name among the places, by FirstPlace; and where it would go: `GoesAt` says what reading shows, and of two such indices the nearer would not stop.
 use mathlib.Core.Path.{_≡_, refl, sym, subst, _∙_}
 use mathlib.Core.Logic.{_≢_}
 use mathlib.Core.Bool.{Bool, false}

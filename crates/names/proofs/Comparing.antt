@@ -1,4 +1,4 @@
--- Two lists of bytes compared from an index on.
+-- Two lists of bytes compared from an index on: one turn of a loop is one step of the order, since dropping to the index leaves the byte there in front.
 use mathlib.Core.Path.{_≡_, refl}
 use mathlib.Core.List.{List}
 use Prim.Native.Nat.{ℕ, suc, _+_, _-_, _≤_, _<_, compare, Ordering·lt, Ordering·eq, Ordering·gt}

@@ -1,4 +1,4 @@
--- A copy, element by element, of one list over another.
+-- A copy, element by element, of one list over another: what is copied so far is a front of the one and the rest of the other.
 use mathlib.Core.Path.{_≡_, sym, _∙_}
 use mathlib.Core.List.{List, _++_, append-nil}
 use Prim.Native.Nat.{ℕ, suc, _+_, _≤_, _<_}

@@ -1,4 +1,4 @@
--- Sums over the places in use, taken place by place.
+-- Sums over the places in use, taken place by place: one place further, the sum grows by what the place loaded there adds.
 use mathlib.Core.Path.{_≡_, refl, sym, _∙_, ap, ap₂}
 use mathlib.Core.List.{List, [], _∷_, map}
 use Prim.Native.Nat.{ℕ, zero, suc, _+_, _≤_, _<_}

@@ -1,4 +1,4 @@
--- What is read of the whole room of a sound ledger is what the rules read of the ledger.
+-- What is read of the whole room of a sound ledger is what the rules read of the ledger: the places in use are the ledger's, seen through their records.
 use mathlib.Core.Path.{_≡_, refl, sym, _∙_, ap}
 use mathlib.Core.Bool.{cond}
 use mathlib.Core.List.{List, [], _∷_}

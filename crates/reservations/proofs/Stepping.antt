@@ -1,4 +1,4 @@
--- The steps on the tables one after the other: the room stays sized.
+-- The steps on the tables one after the other: the room stays sized, since a step changes the counts only as it says.
 use mathlib.Core.Path.{_≡_, ap}
 use mathlib.Core.List.{List}
 use Prim.Native.Nat.{ℕ, suc, _<_}

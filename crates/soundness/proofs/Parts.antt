@@ -1,4 +1,4 @@
--- The tables of a room by the parts in which the code asks for them.
+-- The tables of a room by the parts in which the code asks for them: a table's front is its first rows, and its rest is empty just where its bytes are zero.
 use mathlib.Core.Path.{_≡_, refl, sym, ap, ap₂, _∙_, subst}
 use mathlib.Core.List.{List}
 use Prim.Native.Nat.{ℕ, _+_, _-_, _*_, _<_}

@@ -1,4 +1,5 @@
--- `accounts::ensure` meets its contract.
+-- `accounts::ensure` meets its contract: what was looked up is the name's seat (`Seen`), the rule by value decides on it, and each answer is carried out
+-- by one law of Performing.
 use mathlib.Core.Path.{_≡_, sym, _∙_, ap, subst}
 use mathlib.Core.List.{[]}
 use native.Mathlib.Omega.{arith}

@@ -1,4 +1,4 @@
--- `heads::identifier_at` meets its contract.
+-- `heads::identifier_at` meets its contract: the test against M is the rule's own, turned to its Boolean form.
 use native.Mathlib.Omega.{arith}
 use borrow.Author.Tests.{lt-ltb, le-ltb}
 use Rattle.rules.specs.RoomAndSoundLedger.{M}

@@ -1,4 +1,4 @@
--- `heads::larger` meets its contract.
+-- `heads::larger` meets its contract: the test of the two is the definition's own, turned to its Boolean form.
 use native.Mathlib.Omega.{arith}
 use borrow.Author.Tests.{lt-ltb, le-ltb}
 use Rattle.heads.proofs.larger.Statement.{statement}

@@ -1,4 +1,4 @@
--- `heads::next_after` meets its contract.
+-- `heads::next_after` meets its contract: the test against M is the rule's own, turned to its Boolean form; below M the sum fits.
 use native.Mathlib.Omega.{arith}
 use borrow.Author.Needs.{needs}
 use borrow.Author.Tests.{lt-ltb, le-ltb}

@@ -1,4 +1,4 @@
--- `heads::since_baseline` meets its contract.
+-- `heads::since_baseline` meets its contract: the test of the two is the definition's own, turned to its Boolean form.
 use native.Mathlib.Omega.{arith}
 use borrow.Author.Needs.{needs}
 use borrow.Author.Tests.{lt-ltb, le-ltb}

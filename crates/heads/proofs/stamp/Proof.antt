@@ -1,4 +1,5 @@
--- `heads::stamp` meets its contract.
+-- `heads::stamp` meets its contract: what the draw answered says whether next id is M (Draws); where it is not, the head drawn has the next id that is
+-- tagged.
 use mathlib.Core.Path.{_≡_, sym, ap, _∙_}
 use Prim.Native.Nat.{ℕ, _<_}
 use native.Mathlib.Omega.{arith}

@@ -1,4 +1,4 @@
--- `names::compare_name` meets its contract: the array has its 24 bytes, so the length's part of it is lent whole.
+-- `names::compare_name` meets its contract: the array is as long as the longest name, so the length's part of it is lent whole.
 use mathlib.Core.Path.{_≡_, sym}
 use native.Mathlib.Omega.{arith}
 use borrow.Author.Needs.{needs}

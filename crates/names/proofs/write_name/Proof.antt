@@ -1,4 +1,4 @@
--- `snapshot_writer::write_name` meets its contract: the length, and the name's bytes copied behind it.
+-- `names::write_name` meets its contract: the length, then a loop whose invariant is that the bytes passed are pasted behind it.
 use mathlib.Core.Path.{_≡_, sym, ap, _∙_}
 use mathlib.Core.List.{List, [], _∷_, append-nil}
 use Prim.Native.Nat.{ℕ, _+_, _-_, _≤_, _<_}

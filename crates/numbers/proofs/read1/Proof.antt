@@ -1,4 +1,4 @@
--- `numbers::read1` meets its contract: one law over the size.
+-- `numbers::read1` meets its contract: a byte is a number of one byte: `read-number`, a law over any size.
 use native.Mathlib.Omega.{arith}
 use borrow.Author.Needs.{needs}
 use Rattle.numbers.proofs.Bytes.{all-bytes}

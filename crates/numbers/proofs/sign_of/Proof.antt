@@ -1,4 +1,5 @@
--- `numbers::sign_of` meets its contract.
+-- `numbers::sign_of` meets its contract: a signed number is held as itself (`held-is`), so the test against 0 tells its constructor; what is not negative
+-- is a number that fits.
 use mathlib.Core.Path.{_≡_, sym, _∙_, ap, subst}
 use mathlib.Core.Bool.{true, false}
 use native.Mathlib.Omega.{arith}

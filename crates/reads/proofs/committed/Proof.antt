@@ -1,4 +1,4 @@
--- `reads::committed` meets its contract.
+-- `reads::committed` meets its contract: `seek` gives the ledger's seat of the name, and `of_account` answers of it what the rule reads.
 use mathlib.Core.Path.{_∙_}
 use borrow.Author.Needs.{needs}
 use Rattle.rules.specs.AccountRules.{operate, readRule}

@@ -1,4 +1,5 @@
--- `reads::committed_since` meets its contract.
+-- `reads::committed_since` meets its contract: the sum tells whether the total is above M, and either way the baseline of a sound ledger is not above what
+-- it is taken from (Totals).
 use mathlib.Core.Path.{_∙_, ap}
 use mathlib.Core.List.{[], _∷_}
 use Prim.Native.Nat.{_≤_}

@@ -1,4 +1,4 @@
--- `reads::committed_total` meets its contract.
+-- `reads::committed_total` meets its contract: the sum over the places is the ledger's total, or says that it is above M (Totals).
 use mathlib.Core.Path.{sym, _∙_, ap}
 use mathlib.Core.List.{[], _∷_}
 use borrow.Author.Needs.{needs}

@@ -1,4 +1,4 @@
--- `reads::last_version` meets its contract.
+-- `reads::last_version` meets its contract: what is loaded is the ledger's head.
 use borrow.Author.Needs.{needs}
 use Rattle.reads.proofs.Totals.{version-is}
 use Rattle.reads.proofs.last_version.Statement.{statement}

@@ -1,4 +1,4 @@
--- `reads::live` meets its contract.
+-- `reads::live` meets its contract: what is loaded are the ledger's counts.
 use borrow.Author.Needs.{needs}
 use Rattle.reads.proofs.Totals.{live-is}
 use Rattle.reads.proofs.live.Statement.{statement}

@@ -1,4 +1,4 @@
--- `reads::of_account` meets its contract.
+-- `reads::of_account` meets its contract: the flag's test is the definition's own, turned to its Boolean form.
 use mathlib.Core.List.{[], _∷_}
 use borrow.Author.Needs.{needs}
 use borrow.Author.Tests.{eq-eqb, ne-eqb}

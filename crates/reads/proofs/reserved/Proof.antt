@@ -1,4 +1,4 @@
--- `reads::reserved` meets its contract.
+-- `reads::reserved` meets its contract: `seek` gives the ledger's seat of the name; without an account it has 0 reserved, so no test is needed.
 use mathlib.Core.Path.{_∙_, ap}
 use mathlib.Core.List.{[], _∷_}
 use borrow.Author.Needs.{needs}

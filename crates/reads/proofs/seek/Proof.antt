@@ -1,4 +1,4 @@
--- `reads::seek` meets its contract.
+-- `reads::seek` meets its contract: a name that is too long is told at once; else what the look-up found is the ledger's seat of the name (`sought-seat`).
 use Rattle.room.proofs.SoundRoom.{searchable}
 use Rattle.lookup.proofs.Places.{seat-readable}
 use Rattle.reads.proofs.Seeking.{sought-long, sought-seat}

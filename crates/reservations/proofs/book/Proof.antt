@@ -1,4 +1,5 @@
--- `reservations::book` meets its contract.
+-- `reservations::book` meets its contract: the counts loaded say whether there is room; if so the seat, the booking and the head are stored in turn, and
+-- each step leaves the room as sized as the next one asks (Stepping).
 use mathlib.Core.Path.{_≡_, refl, sym, ap, _∙_}
 use Prim.Native.Nat.{_<_}
 use native.Mathlib.Omega.{arith}

@@ -1,4 +1,5 @@
--- `reservations::commit` meets its contract.
+-- `reservations::commit` meets its contract: a booking that was found is live (`found-booking`), the rule by value decides on what is due, and each answer
+-- is carried out by one law of Ending.
 use mathlib.Core.Path.{_≡_, refl, sym, ap, subst, _∙_}
 use mathlib.Core.List.{List, [], _∷_}
 use Prim.Native.Nat.{ℕ}

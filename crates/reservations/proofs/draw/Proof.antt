@@ -1,4 +1,4 @@
--- `reservations::draw` meets its contract.
+-- `reservations::draw` meets its contract: the head that was drawn is stored; below M it is the one with the next id (`head-drawn`).
 use mathlib.Core.Path.{ap, _∙_}
 use borrow.Author.Needs.{needs}
 use Rattle.heads.proofs.Draws.{head-drawn}

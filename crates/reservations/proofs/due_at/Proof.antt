@@ -1,4 +1,5 @@
--- `reservations::due_at` meets its contract.
+-- `reservations::due_at` meets its contract: what is loaded is the record of the ledger's booking, its owner the number of its airline's place, and so the
+-- seat there is the airline's.
 use mathlib.Core.Path.{_≡_, sym, ap}
 use Prim.Native.Nat.{_<_}
 use native.Mathlib.Omega.{arith}

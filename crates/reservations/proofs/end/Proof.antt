@@ -1,4 +1,5 @@
--- `reservations::end` meets its contract.
+-- `reservations::end` meets its contract: the seat and then the booking: two changes of the contents, and the first leaves the sizes that the second asks
+-- for.
 use mathlib.Core.Path.{_≡_, ap, _∙_}
 use borrow.Author.Needs.{needs}
 use Rattle.room.specs.Contents.{contentsOf, removedBooking}

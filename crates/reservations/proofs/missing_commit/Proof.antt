@@ -1,4 +1,4 @@
--- `reservations::missing_commit` meets its contract.
+-- `reservations::missing_commit` meets its contract: the sign of the amount decides, as the rule does for an id that is not live.
 use mathlib.Core.Path.{refl, ap}
 use mathlib.Core.Option.{none}
 use borrow.Author.Needs.{needs}

@@ -1,4 +1,5 @@
--- `reservations::reserve` meets its contract.
+-- `reservations::reserve` meets its contract: the name's seat is found, the rule by value decides on it and on the head, and each answer is carried out by
+-- one law of Reserving; a name with an account is never absent.
 use mathlib.Core.Path.{_≡_, refl, sym, ap, ap₂, subst, _∙_}
 use mathlib.Core.Bool.{false}
 use mathlib.Core.List.{List, [], _∷_}

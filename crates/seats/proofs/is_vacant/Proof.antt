@@ -1,4 +1,4 @@
--- `seats::is_vacant` meets its contract.
+-- `seats::is_vacant` meets its contract: by the account flag: with an account a seat is not vacant, without one the limit decides.
 use Rattle.seats.proofs.Places.{without-account, with-account}
 use Rattle.seats.proofs.is_vacant.Statement.{statement}
 use Rattle.seats.proofs.is_vacant.Tie as tie

@@ -1,4 +1,5 @@
--- `seats::open_place` meets its contract.
+-- `seats::open_place` meets its contract: what is loaded are the ledger's counts, so the test says whether it is full; else the look-up says where the
+-- name goes, and `opens` that the room with it is the ledger's with the seat.
 use mathlib.Core.Path.{_≡_, _∙_, sym}
 use Prim.Native.Nat.{_<_}
 use native.Mathlib.Omega.{arith}

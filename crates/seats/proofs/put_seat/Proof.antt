@@ -1,4 +1,4 @@
--- `seats::put_seat` meets its contract.
+-- `seats::put_seat` meets its contract: the place is loaded, its seat replaced and the place stored: together the change of one seat.
 use mathlib.Core.Path.{ap, _∙_}
 use Prim.Native.Nat.{_<_}
 use native.Mathlib.Omega.{arith}

@@ -1,4 +1,4 @@
--- `seats::seat_at` meets its contract.
+-- `seats::seat_at` meets its contract: a place that was found is in use, so what is loaded is its entry; an absent name has the seat of an empty place.
 use mathlib.Core.Path.{sym, ap, _∙_, subst}
 use Prim.Native.Nat.{_<_}
 use native.Mathlib.Omega.{arith}

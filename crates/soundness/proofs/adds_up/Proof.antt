@@ -1,4 +1,5 @@
--- `soundness::adds_up` meets its contract.
+-- `soundness::adds_up` meets its contract: each refusal contradicts a sum that is at most M, and past them the last difference is what is left; all by
+-- linear arithmetic.
 use Prim.Native.Nat.{_-_}
 use native.Mathlib.Omega.{arith}
 use Rattle.rules.specs.RoomAndSoundLedger.{M}

@@ -1,4 +1,4 @@
--- `soundness::booking_sound` meets its contract.
+-- `soundness::booking_sound` meets its contract: each refusal contradicts one clause, and past them the owner's test decides.
 use native.Mathlib.Omega.{arith}
 use Rattle.soundness.proofs.Deciding.{refuse, by-less}
 use Rattle.soundness.proofs.booking_sound.Statement.{statement}

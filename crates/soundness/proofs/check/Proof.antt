@@ -1,4 +1,4 @@
--- `soundness::check` meets its contract.
+-- `soundness::check` meets its contract: each test is a field of the facts, carried over to what was loaded; the tables are asked last.
 use mathlib.Core.Path.{sym, subst}
 use native.Mathlib.Omega.{arith}
 use borrow.Author.Needs.{needs}

@@ -1,4 +1,4 @@
--- `soundness::clear` meets its contract.
+-- `soundness::clear` meets its contract: the invariant is that the bytes passed are zeros, and those from i on as they were.
 use mathlib.Core.Path.{_≡_, refl, ap, _∙_}
 use mathlib.Core.List.{[], _++_, append-nil}
 use Prim.Native.Nat.{ℕ, _-_, _≤_}

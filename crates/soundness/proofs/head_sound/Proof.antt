@@ -1,4 +1,4 @@
--- `soundness::head_sound` meets its contract.
+-- `soundness::head_sound` meets its contract: two tests refuse a clause each, and past them the version decides.
 use native.Mathlib.Omega.{arith}
 use borrow.Author.Needs.{needs}
 use Rattle.rules.specs.RoomAndSoundLedger.{M}

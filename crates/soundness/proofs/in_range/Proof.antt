@@ -1,4 +1,4 @@
--- `soundness::in_range` meets its contract.
+-- `soundness::in_range` meets its contract: below the low end it is refused, else the high end decides.
 use native.Mathlib.Omega.{arith}
 use Rattle.soundness.proofs.Deciding.{refuse, by-most}
 use Rattle.soundness.proofs.in_range.Statement.{statement}

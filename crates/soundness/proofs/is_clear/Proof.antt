@@ -1,4 +1,4 @@
--- `soundness::is_clear` meets its contract.
+-- `soundness::is_clear` meets its contract: a number shifted by whole bytes is its quotient, which is 0 exactly where the number is below the divisor.
 use Prim.Native.Nat.{_*_, _/_, _^_, _<_}
 use native.Mathlib.Nat.{lt-of-lt-of-le, one-mul, div-eq-of-lt, div-lt-iff-lt-mul}
 use native.Mathlib.Omega.{arith}

@@ -1,4 +1,4 @@
--- `soundness::is_zero` meets its contract.
+-- `soundness::is_zero` meets its contract: the invariant is that what is joined is zero just where every byte passed is (Joined).
 use Prim.Native.Nat.{_-_, _≤_}
 use native.Mathlib.Omega.{arith}
 use borrow.Author.Needs.{needs}

@@ -1,4 +1,5 @@
--- `soundness::make` meets its contract.
+-- `soundness::make` meets its contract: a refusal is one of `sizes_sound`; else the room is zeros with the sizes and the head stored over them, which
+-- Fresh shows to be a fresh ledger's.
 use mathlib.Core.Path.{_≡_, refl, sym, ap, _∙_}
 use native.Mathlib.Omega.{arith}
 use borrow.Author.Needs.{needs}

@@ -1,4 +1,4 @@
--- `soundness::name_length` meets its contract.
+-- `soundness::name_length` meets its contract: the byte at its index is the length in the place's record (`name-length` of room).
 use mathlib.Core.Path.{sym}
 use borrow.Author.Needs.{needs}
 use Rattle.room.proofs.InRoom.{name-length}

@@ -1,4 +1,4 @@
--- `soundness::name_part` meets its contract.
+-- `soundness::name_part` meets its contract: the part of the room is the row of the name's bytes (`part-stands`).
 use Prim.Native.Nat.{_+_, _*_}
 use native.Mathlib.Omega.{arith}
 use Rattle.records.specs.Layout.{nameBytesStart}

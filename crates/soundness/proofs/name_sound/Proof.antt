@@ -1,4 +1,5 @@
--- `soundness::name_sound` meets its contract.
+-- `soundness::name_sound` meets its contract: the invariant is that the bytes past the length are zero in the parts passed. A part is zero from a byte on
+-- just where its little-endian number is that small (ClearBytes).
 use mathlib.Core.Path.{_≡_, sym, ap, ap₂, _∙_, subst}
 use mathlib.Core.Logic.{⊎-elim}
 use mathlib.Core.List.{List}

@@ -1,4 +1,4 @@
--- `soundness::nothing_left` meets its contract.
+-- `soundness::nothing_left` meets its contract: the invariant is that what is joined is zero just where every number passed is (Joined).
 use Prim.Native.Nat.{_-_, _≤_}
 use native.Mathlib.Omega.{arith}
 use borrow.Author.Needs.{needs}

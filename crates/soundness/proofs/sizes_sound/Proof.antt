@@ -1,4 +1,4 @@
--- `soundness::sizes_sound` meets its contract.
+-- `soundness::sizes_sound` meets its contract: each test refuses a clause, and past them the size decides; the ranges keep its sum small.
 use native.Mathlib.Omega.{arith}
 use borrow.Author.Needs.{needs}
 use Rattle.rules.specs.RoomAndSoundLedger.{InRange, mostNames, mostReservations}

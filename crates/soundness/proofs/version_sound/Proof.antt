@@ -1,4 +1,5 @@
--- `soundness::version_sound` meets its contract.
+-- `soundness::version_sound` meets its contract: the mask and the cut of big_endian are the rules' tag and fence, so each test refuses or settles one side
+-- of the clause.
 use mathlib.Core.Path.{sym, _∙_}
 use mathlib.Core.Logic.{inl, inr, ⊎-elim}
 use borrow.Author.Needs.{needs}

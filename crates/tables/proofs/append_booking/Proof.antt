@@ -1,4 +1,5 @@
--- `tables::append_booking` meets its contract.
+-- `tables::append_booking` meets its contract: the store puts the booking behind the live ones, the counts then take it in; `counted` joins the two stores
+-- to the step.
 use Prim.Native.Nat.{_+_}
 use mathlib.Core.Path.{refl, ap}
 use native.Mathlib.Omega.{arith}

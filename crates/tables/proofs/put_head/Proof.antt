@@ -1,4 +1,4 @@
--- `tables::put_head` meets its contract.
+-- `tables::put_head` meets its contract: one store, which `head-put` reads as a change of the contents.
 use borrow.Author.Needs.{needs}
 use Rattle.tables.proofs.Stores.{head-put}
 use Rattle.tables.proofs.put_head.Statement.{statement}

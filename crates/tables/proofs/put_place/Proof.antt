@@ -1,4 +1,4 @@
--- `tables::put_place` meets its contract.
+-- `tables::put_place` meets its contract: a place in use lies within the room, and `place-put` reads the one store as a change of the contents.
 use Prim.Native.Nat.{_<_}
 use native.Mathlib.Omega.{arith}
 use borrow.Author.Needs.{needs}
