@@ -10,6 +10,7 @@ ghost use mathlib.Core.Path.{_≡_};
 ghost use Prim.Native.Nat.{_≤_};
 ghost use lib.ListN.{length};
 ghost use Rattle.rules.specs.SnapshotsMigrationCertificates.{snapshotOfBytes, snapshot, restore, recoveryRestore, migrate, status, certificateOfSnapshot, certificateOfLedger, conservationProof, outputAfter};
+ghost use Rattle.rules.specs.RoomAndSoundLedger.{longestName};
 ghost use Rattle.room.specs.Room.{Answers};
 ghost use Rattle.validation.specs.Judgement.{judgedReply};
 ghost use Rattle.snapshot_writer.specs.Output.{snapshotReply, SizeWithin};
@@ -45,7 +46,7 @@ fn first_check(room: &[u8], bytes: &[u8]) -> Verdict
 // One pass over the bytes to read them, three to judge them, in one of which each name is compared with those before it, and one to put the rows.
 pub fn restore(room: &mut [u8], bytes: &[u8]) -> Judged
     ensures answers { λ r. ⌜ AnswersSnapshot restore (snapshotOfBytes (now (bytes .entry))) (now (room .entry)) (judgedReply r) (now (room .exit)) ⌝ }
-    ensures short { λ r. ⌜ r .name .length ≤ 24 ⌝ }
+    ensures short { λ r. ⌜ r .name .length ≤ longestName ⌝ }
 {
     let first = first_check(room, bytes);
     let Verdict::Done = first else {
@@ -57,7 +58,7 @@ pub fn restore(room: &mut [u8], bytes: &[u8]) -> Judged
 // As a restore.
 pub fn recovery_restore(room: &mut [u8], bytes: &[u8]) -> Judged
     ensures answers { λ r. ⌜ AnswersSnapshot recoveryRestore (snapshotOfBytes (now (bytes .entry))) (now (room .entry)) (judgedReply r) (now (room .exit)) ⌝ }
-    ensures short { λ r. ⌜ r .name .length ≤ 24 ⌝ }
+    ensures short { λ r. ⌜ r .name .length ≤ longestName ⌝ }
 {
     let first = first_check(room, bytes);
     let Verdict::Done = first else {
@@ -70,7 +71,7 @@ pub fn recovery_restore(room: &mut [u8], bytes: &[u8]) -> Judged
 pub fn migrate(bytes: &[u8], fence: u64, output: &mut [u8]) -> Judged
     ensures answer { λ r. ⌜ migratedReply (length (now (bytes .entry))) (now (output .exit)) r ≡ onSupplied (migrate (length (now (output .entry))) fence) (snapshotOfBytes (now (bytes .entry))) ⌝ }
     ensures output { λ r. ⌜ now (output .exit) ≡ outputAfter (migratedReply (length (now (bytes .entry))) (now (output .exit)) r) (now (output .entry)) ⌝ }
-    ensures short { λ r. ⌜ r .name .length ≤ 24 ⌝ }
+    ensures short { λ r. ⌜ r .name .length ≤ longestName ⌝ }
 {
     if !snapshot_reader::is_snapshot(bytes) {
         return validation::nameless(Verdict::BadFrame);
@@ -81,7 +82,7 @@ pub fn migrate(bytes: &[u8], fence: u64, output: &mut [u8]) -> Judged
 // "conservation status of a snapshot": three passes over the bytes.
 pub fn status(bytes: &[u8]) -> Judged
     ensures answer { λ r. ⌜ judgedReply r ≡ onSupplied status (snapshotOfBytes (now (bytes .entry))) ⌝ }
-    ensures short { λ r. ⌜ r .name .length ≤ 24 ⌝ }
+    ensures short { λ r. ⌜ r .name .length ≤ longestName ⌝ }
 {
     if !snapshot_reader::is_snapshot(bytes) {
         return validation::nameless(Verdict::BadFrame);

@@ -6,9 +6,10 @@ ghost use lib.ListN.{length};
 ghost use Rattle.rules.specs.RoomAndSoundLedger.{M, hasTag, fenceOf};
 ghost use Rattle.rules.specs.SnapshotsMigrationCertificates.{bytesOf, numberOf, twosComplement, signed, amountBytes, tagged};
 
-const M: u64 = 9223372036854775807;
+// Bit 63, which is 2^63; and the least amount, which is as far below 0.
+pub const TAG: u64 = rules::M + 1;
 
-const TAG: u64 = 9223372036854775808;
+pub const LEAST: i64 = -(rules::M as i64) - 1;
 
 // Bytes are joined by `|` and shifts, and parted by division.
 pub fn read8(bytes: &[u8]) -> u64
@@ -61,7 +62,7 @@ pub fn signed(word: u64) -> Microcents
     if word < TAG {
         return Microcents(word as i64);
     }
-    Microcents((word - TAG) as i64 + (-9223372036854775808))
+    Microcents((word - TAG) as i64 + LEAST)
 }
 
 pub fn word_of(amount: Microcents) -> u64
@@ -71,7 +72,7 @@ pub fn word_of(amount: Microcents) -> u64
     if 0 <= x {
         return x as u64;
     }
-    (x - (-9223372036854775808)) as u64 + TAG
+    (x - LEAST) as u64 + TAG
 }
 
 pub fn read_amount(bytes: &[u8]) -> Microcents
@@ -98,7 +99,7 @@ pub fn has_tag(version: u64) -> bool
 pub fn fence_of(version: u64) -> u64
     ensures { λ r. ⌜ r ≡ fenceOf version ⌝ }
 {
-    version & M
+    version & rules::M
 }
 
 // "2^63 plus fence"

@@ -6,7 +6,7 @@ use native.Mathlib.Omega.{arith}
 use lib.IntN.{ℤ, pos, _+ℤ_, +ℤ-assoc, +ℤ-idl, +ℤ-idr}
 use lib.ListN.{length, length-append}
 use lib.Signed.{mag}
-use Rattle.rules.specs.SnapshotsMigrationCertificates.{Row, exactTotal}
+use Rattle.rules.specs.SnapshotsMigrationCertificates.{Row, exactTotal, mostRows}
 use Rattle.numbers.specs.declared.Microcents.{Microcents}
 use Rattle.totals.specs.declared.Total.{Total}
 use Rattle.totals.specs.Totals.{valueOf, Moved}
@@ -22,7 +22,7 @@ Plus t a u = (valueOf u ≡ valueOf t +ℤ a .0) × Moved (mag (t .high) + 1) u
 
 module _ (n : ℕ) (z : ℤ) (t : Total) (so-far : Totalled n z t) where
   -- what `plus` asks
-  pub may-add : n ≤ 256 → mag (t .high) < 2 ^ 62
+  pub may-add : n ≤ mostRows → mag (t .high) < 2 ^ 62
   may-add few = moved-little t n (omega arith) (so-far .1) .1
 
   pub one-more : (a : Microcents) (u : Total) → Plus t a u → Totalled (n + 1) (z +ℤ a .0) u

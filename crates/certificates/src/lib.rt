@@ -90,7 +90,7 @@ fn totals_of_rows(bytes: &[u8]) -> Totals
 {
     let mut initial = totals::nothing();
     let mut committed = totals::nothing();
-    let mut at = 18;
+    let mut at = rules::SNAPSHOT_HEADER;
     while at < bytes.len() {
         let row = snapshot_reader::read_row(bytes, at);
         initial = totals::plus(initial, row.initial);

@@ -9,7 +9,7 @@ use native.Mathlib.Omega.{arith}
 use borrow.Author.Tests.{ltb-false}
 use lib.ListN.{length, length-append}
 use Rattle.rules.specs.Lists.{any, All, Pairwise}
-use Rattle.rules.specs.RoomAndSoundLedger.{M, Name, same, Seat, Place, isVacant, withPlaces, isAt, seatOf, holdsPlace, seatIn, committedOf, committedTotal, InRange, Before, Sound, fresh}
+use Rattle.rules.specs.RoomAndSoundLedger.{M, Name, same, Seat, Place, isVacant, withPlaces, isAt, seatOf, holdsPlace, seatIn, committedOf, committedTotal, InRange, Before, Sound, fresh, longestName, mostNames, mostReservations}
 use Rattle.rules.specs.AccountRules.{natural, put, isTooLong}
 use Rattle.rules.specs.SnapshotsMigrationCertificates.{Row, rowValidation, rowsValidation, restoredSeat, restoredPlaces}
 use Rattle.rules.specs.Domain.{RowFits}
@@ -93,7 +93,7 @@ pub record Pass (t : ℕ) (rs : List Row) : Type 0 where
   pub few : length rs ≤ t
 
 -- with the first of them put, the ledger is sound
-pub rows-sound : (t r : ℕ) → InRange 1 256 t → InRange 1 1024 r → (earlier later : List Row) → Pass t (earlier ++ later) → Sound (withPlaces (fresh t r) (restoredPlaces earlier))
+pub rows-sound : (t r : ℕ) → InRange 1 mostNames t → InRange 1 mostReservations r → (earlier later : List Row) → Pass t (earlier ++ later) → Sound (withPlaces (fresh t r) (restoredPlaces earlier))
 unfolding fresh
 rows-sound t r names reservations earlier later pass =
     let s = by-name (fresh t r) (fresh-sound t r names reservations) in
@@ -123,8 +123,8 @@ module _ (t : ℕ) (earlier : List Row) (r : Row) (later : List Row) (pass : Pas
   pub row-fits : RowFits r
   row-fits = all-parts RowFits earlier (r ∷ later) (pass .fit) .1 .0
 
-  pub row-short : length (r .name) ≤ 24
-  row-short = ltb-false 24 (length (r .name)) (all-parts (λ r. isTooLong (r .name) ≡ false) earlier (r ∷ later) (pass .short) .1 .0)
+  pub row-short : length (r .name) ≤ longestName
+  row-short = ltb-false longestName (length (r .name)) (all-parts (λ r. isTooLong (r .name) ≡ false) earlier (r ∷ later) (pass .short) .1 .0)
 
   pub row-restorable : Restorable r
   row-restorable = all-parts Restorable earlier (r ∷ later) (pass .restorable) .1 .0

@@ -11,7 +11,7 @@ use lib.ListN.{length, take, drop}
 use lib.Seq.{append-snoc}
 use lib.Signed.{ltZ}
 use Rattle.rules.specs.Lists.{sum, All}
-use Rattle.rules.specs.RoomAndSoundLedger.{M, Name, IsByte, Ledger, isVacant, withPlaces, committedTotal, fresh}
+use Rattle.rules.specs.RoomAndSoundLedger.{M, Name, IsByte, Ledger, isVacant, withPlaces, committedTotal, fresh, longestName}
 use Rattle.rules.specs.AccountRules.{natural, seated, hasRoom}
 use Rattle.rules.specs.SnapshotsMigrationCertificates.{Row, Snapshot, snapshotOfBytes, hasLongName, validation, restoredSeat, restoredPlaces}
 use Rattle.rules.proofs.Lists.{none-any}
@@ -77,11 +77,11 @@ module _ {t r : ℕ} {room : List ℕ} {baseline : ℕ} {earlier : List Row} {ro
 
   module _ {a : Name} (is-name : a ≡ row .name) {seat : Seat} (is-seat : seat ≡ seatOfRow row) where
     -- what putting it asks
-    pub row-asks : SoundRoom room × (length a ≤ 24) × SeatSound seat × (isVacant (meaning seat) ≡ false) × ((L : Ledger) → IsRoom room L → hasRoom a (meaning seat) L ≡ true)
+    pub row-asks : SoundRoom room × (length a ≤ longestName) × SeatSound seat × (isVacant (meaning seat) ≡ false) × ((L : Ledger) → IsRoom room L → hasRoom a (meaning seat) L ≡ true)
     row-asks =
         let is-room = put .puts .is-room in (
           record { ledger = ledgerWith t r earlier; is-room = is-room },
-          subst (λ a. length a ≤ 24) (sym is-name) (row-short t earlier row later (put .pass)),
+          subst (λ a. length a ≤ longestName) (sym is-name) (row-short t earlier row later (put .pass)),
           subst SeatSound (sym is-seat) row-seat,
           ap (λ s. isVacant (meaning s)) is-seat,
           λ L known. (λ i. hasRoom (is-name i) (meaning (is-seat i)) (one-ledger room L (ledgerWith t r earlier) known is-room i)) ∙ has-room,

@@ -10,7 +10,7 @@ ghost use Prim.Native.Nat.{_+_, _≤_, min};
 ghost use lib.IntN.{pos};
 ghost use lib.Signed.{ltZ};
 ghost use lib.ListN.{length};
-ghost use Rattle.rules.specs.RoomAndSoundLedger.{M, isVacant, withPlaces, fresh};
+ghost use Rattle.rules.specs.RoomAndSoundLedger.{M, isVacant, withPlaces, fresh, longestName};
 ghost use Rattle.rules.specs.AccountRules.{natural, seated, hasRoom};
 ghost use Rattle.rules.specs.SnapshotsMigrationCertificates.{Row, restored};
 ghost use Rattle.moves.specs.Moves.{meaning, SeatSound};
@@ -32,7 +32,7 @@ fn capped(total: u64, more: u64) -> u64
     ensures { λ r. ⌜ r ≡ min (total + more) M ⌝ }
 {
     let Sum::Fits(sum) = numbers::plus(total, more) else {
-        return 9223372036854775807;
+        return rules::M;
     };
     sum
 }
@@ -52,7 +52,7 @@ fn seat_of(row: StandingRow) -> Seat
 }
 
 fn put_row(room: &mut [u8], part: &[u8], seat: Seat)
-    requires { ⌜ SoundRoom (now room) × (length (now part) ≤ 24) × SeatSound seat × (isVacant (meaning seat) ≡ false) × (OfRoom (now room) (λ L. hasRoom (now part) (meaning seat) L ≡ true)) ⌝ }
+    requires { ⌜ SoundRoom (now room) × (length (now part) ≤ longestName) × SeatSound seat × (isVacant (meaning seat) ≡ false) × (OfRoom (now room) (λ L. hasRoom (now part) (meaning seat) L ≡ true)) ⌝ }
     ensures { λ _. ⌜ OfRoom (now (room .entry)) (λ L. Holds (withPlaces L (seated (now (part .entry)) (meaning seat) (L .places))) (now (room .entry)) (now (room .exit))) ⌝ }
 {
     let found = lookup::find(room, part);
@@ -65,7 +65,7 @@ fn put_rows(room: &mut [u8], bytes: &[u8]) -> u64
     ensures { λ r. ⌜ OfRoom (now (room .entry)) (λ L. OfSnapshot (now (bytes .entry)) (λ s. PutsRows (L .T) (L .R) (s .rows) (now (room .exit)) r)) ⌝ }
 {
     let mut baseline = 0;
-    let mut at = 18;
+    let mut at = rules::SNAPSHOT_HEADER;
     while at < bytes.len() {
         let row = snapshot_reader::read_row(bytes, at);
         let from = at + 1;

@@ -5,12 +5,11 @@ ghost use mathlib.Core.Path.{_≡_};
 ghost use mathlib.Core.List.{[]};
 ghost use Prim.Native.Nat.{_≤_};
 ghost use Rattle.rules.specs.SnapshotsMigrationCertificates.{restoreVersion, recoveryVersion, restoreRefusal, restore, recoveryRestore};
+ghost use Rattle.rules.specs.RoomAndSoundLedger.{longestName};
 ghost use Rattle.snapshot_reader.specs.Standing.{IsSnapshot, OfSnapshot};
 ghost use Rattle.validation.specs.Judgement.{refusalOf, refusalIn, judgedReply};
 ghost use Rattle.room.specs.Room.{SoundRoom, Performs};
 ghost use Rattle.restoring.specs.Forms.{restoreBy, Keeps};
-
-const M: u64 = 9223372036854775807;
 
 // "version without bit 63 or with low bits 0 gives 13, empty name, field 4, value = version or M if larger"
 fn restore_version(version: u64) -> Verdict
@@ -20,7 +19,7 @@ fn restore_version(version: u64) -> Verdict
         return Verdict::NegativeLedgerField(4, numbers::amount(version));
     }
     if big_endian::fence_of(version) == 0 {
-        return Verdict::NegativeLedgerField(4, numbers::amount(M));
+        return Verdict::NegativeLedgerField(4, numbers::amount(rules::M));
     }
     Verdict::Done
 }
@@ -43,7 +42,7 @@ fn recovery_version(version: u64) -> Verdict
 fn refusal(names: u64, bytes: &[u8], of_version: Verdict) -> Judged
     requires { ⌜ IsSnapshot (now bytes) ⌝ }
     ensures refusal { λ r. ⌜ OfSnapshot (now (bytes .entry)) (λ s. refusalIn r ≡ restoreRefusal (refusalOf [] «of_version») names s) ⌝ }
-    ensures short { λ r. ⌜ r .name .length ≤ 24 ⌝ }
+    ensures short { λ r. ⌜ r .name .length ≤ longestName ⌝ }
 {
     if snapshot_reader::has_long_name(bytes) {
         return validation::nameless(Verdict::NameTooLong);
@@ -66,7 +65,7 @@ fn refusal(names: u64, bytes: &[u8], of_version: Verdict) -> Judged
 fn restore_by(room: &mut [u8], bytes: &[u8], of_version: Verdict) -> Judged
     requires { ⌜ SoundRoom (now room) × IsSnapshot (now bytes) × Keeps (now bytes) (refusalOf [] «of_version») ⌝ }
     ensures performs { λ r. ⌜ OfSnapshot (now (bytes .entry)) (λ s. Performs (λ K. restoreBy (refusalOf [] «of_version») K s) (now (room .entry)) (judgedReply r) (now (room .exit))) ⌝ }
-    ensures short { λ r. ⌜ r .name .length ≤ 24 ⌝ }
+    ensures short { λ r. ⌜ r .name .length ≤ longestName ⌝ }
 {
     let sizes = records::load_sizes(room);
     let judged = refusal(sizes.names, bytes, of_version);
@@ -81,7 +80,7 @@ fn restore_by(room: &mut [u8], bytes: &[u8], of_version: Verdict) -> Judged
 pub fn restore(room: &mut [u8], bytes: &[u8]) -> Judged
     requires { ⌜ SoundRoom (now room) × IsSnapshot (now bytes) ⌝ }
     ensures performs { λ r. ⌜ OfSnapshot (now (bytes .entry)) (λ s. Performs (λ K. restore K s) (now (room .entry)) (judgedReply r) (now (room .exit))) ⌝ }
-    ensures short { λ r. ⌜ r .name .length ≤ 24 ⌝ }
+    ensures short { λ r. ⌜ r .name .length ≤ longestName ⌝ }
 {
     restore_by(
         room,
@@ -93,7 +92,7 @@ pub fn restore(room: &mut [u8], bytes: &[u8]) -> Judged
 pub fn recovery_restore(room: &mut [u8], bytes: &[u8]) -> Judged
     requires { ⌜ SoundRoom (now room) × IsSnapshot (now bytes) ⌝ }
     ensures performs { λ r. ⌜ OfSnapshot (now (bytes .entry)) (λ s. Performs (λ K. recoveryRestore K s) (now (room .entry)) (judgedReply r) (now (room .exit))) ⌝ }
-    ensures short { λ r. ⌜ r .name .length ≤ 24 ⌝ }
+    ensures short { λ r. ⌜ r .name .length ≤ longestName ⌝ }
 {
     restore_by(
         room,

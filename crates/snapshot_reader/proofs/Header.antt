@@ -7,46 +7,47 @@ use native.Mathlib.Omega.{arith}
 use borrow.Author.Tests.{ltb-true, ltb-false, lt-ltb, le-ltb, eqb-true}
 use lib.Dec.{ltb, eqb}
 use lib.ListN.{length, take, drop, drop-of-length-le}
-use Rattle.rules.specs.SnapshotsMigrationCertificates.{Row, Snapshot, Reading, Reader, reads, goOn, whole, numberOf, unlessTooMany, readRow, readRows, readCount, readSnapshot, snapshotOfBytes}
+use Rattle.rules.specs.SnapshotsMigrationCertificates.{Row, Snapshot, Reading, Reader, reads, goOn, whole, numberOf, unlessTooMany, readRow, readRows, readCount, readSnapshot, snapshotOfBytes, mostRows}
 use Rattle.rules.proofs.Tests.{by-bool, by-test, none-some}
 use Rattle.rules.proofs.Reading.{after}
+use Rattle.big_endian.specs.Layout.{activeStart, countStart, snapshotHeader}
 use Rattle.snapshot_reader.specs.Standing.{IsSnapshot, RowsFrom}
 use Rattle.snapshot_reader.proofs.RowBytes.{goes-on, gives-none, number-takes}
 
 -- ── the head by its places ─────────────────────────────────────────────────────────────────────
 
 abbrev pub countIn : List ℕ → ℕ
-countIn bs = numberOf (take 2 (drop 16 bs))
+countIn bs = numberOf (take 2 (drop countStart bs))
 
 -- the snapshot that bytes are with these rows after the head
 abbrev pub withRows : List ℕ → List Row → Snapshot
-withRows bs rs = record { version = numberOf (take 8 bs); active = numberOf (take 8 (drop 8 bs)); rows = rs }
+withRows bs rs = record { version = numberOf (take 8 bs); active = numberOf (take 8 (drop activeStart bs)); rows = rs }
 
 abbrev pub rowsAfter : List ℕ → Option (Reading (List Row))
-rowsAfter bs = readRows (countIn bs) (drop 18 bs)
+rowsAfter bs = readRows (countIn bs) (drop snapshotHeader bs)
 
 module _ (bs : List ℕ) where
-  count-read : 18 ≤ length bs → countIn bs ≤ 256 → readCount (drop 16 bs) ≡ some (after (countIn bs) (drop 18 bs))
+  count-read : snapshotHeader ≤ length bs → countIn bs ≤ mostRows → readCount (drop countStart bs) ≡ some (after (countIn bs) (drop snapshotHeader bs))
   unfolding readCount
-  count-read h few = goes-on unlessTooMany (number-takes bs 16 18 2 refl) h ∙ rw (le-ltb 256 (countIn bs) few)
+  count-read h few = goes-on unlessTooMany (number-takes bs countStart snapshotHeader 2 refl) h ∙ rw (le-ltb mostRows (countIn bs) few)
 
-  count-refused : 16 ≤ length bs → (18 ≤ length bs → 256 < countIn bs) → readCount (drop 16 bs) ≡ none
+  count-refused : countStart ≤ length bs → (snapshotHeader ≤ length bs → mostRows < countIn bs) → readCount (drop countStart bs) ≡ none
   unfolding readCount
-  count-refused k many = gives-none unlessTooMany (number-takes bs 16 18 2 refl) k (λ h. rw (lt-ltb 256 (countIn bs) (many h)))
+  count-refused k many = gives-none unlessTooMany (number-takes bs countStart snapshotHeader 2 refl) k (λ h. rw (lt-ltb mostRows (countIn bs) (many h)))
 
-  pub head-read : 18 ≤ length bs → countIn bs ≤ 256 → readSnapshot bs ≡ goOn (rowsAfter bs) (λ rs. reads (withRows bs rs))
+  pub head-read : snapshotHeader ≤ length bs → countIn bs ≤ mostRows → readSnapshot bs ≡ goOn (rowsAfter bs) (λ rs. reads (withRows bs rs))
   unfolding readSnapshot
   head-read h few =
-      goes-on _ (number-takes bs 0 8 8 refl) (omega arith)
-      ∙ goes-on _ (number-takes bs 8 16 8 refl) (omega arith)
+      goes-on _ (number-takes bs 0 activeStart 8 refl) (omega arith)
+      ∙ goes-on _ (number-takes bs activeStart countStart 8 refl) (omega arith)
       ∙ rw (count-read h few)
 
   -- too short for a head, or more than 256 rows
-  pub head-refused : (18 ≤ length bs → 256 < countIn bs) → readSnapshot bs ≡ none
+  pub head-refused : (snapshotHeader ≤ length bs → mostRows < countIn bs) → readSnapshot bs ≡ none
   unfolding readSnapshot
   head-refused many =
-      gives-none _ (number-takes bs 0 8 8 refl) (omega arith) λ j.
-      gives-none _ (number-takes bs 8 16 8 refl) j λ k.
+      gives-none _ (number-takes bs 0 activeStart 8 refl) (omega arith) λ j.
+      gives-none _ (number-takes bs activeStart countStart 8 refl) j λ k.
       rw (count-refused k many)
 
 -- ── what is a snapshot ─────────────────────────────────────────────────────────────────────────
@@ -80,30 +81,30 @@ rows-count (suc count) bs r e =
     subst (λ t. length (t .value) ≡ suc count) q (ap suc (rows-count count (row .between .rest) (rows .between) (rows .first)))
 
 pub record Header (bs : List ℕ) (s : Snapshot) : Type 0 where
-  pub long : 18 ≤ length bs
+  pub long : snapshotHeader ≤ length bs
   pub version : s .version ≡ numberOf (take 8 bs)
-  pub active : s .active ≡ numberOf (take 8 (drop 8 bs))
-  pub count : length (s .rows) ≡ numberOf (take 2 (drop 16 bs))
-  pub few : length (s .rows) ≤ 256
-  pub from : RowsFrom bs 18 (s .rows)
+  pub active : s .active ≡ numberOf (take 8 (drop activeStart bs))
+  pub count : length (s .rows) ≡ numberOf (take 2 (drop countStart bs))
+  pub few : length (s .rows) ≤ mostRows
+  pub from : RowsFrom bs snapshotHeader (s .rows)
 
 module _ (bs : List ℕ) where
-  with-rows : 18 ≤ length bs → countIn bs ≤ 256 → (r : Reading (List Row)) → rowsAfter bs ≡ some r → r .rest ≡ [] → Header bs (withRows bs (r .value))
+  with-rows : snapshotHeader ≤ length bs → countIn bs ≤ mostRows → (r : Reading (List Row)) → rowsAfter bs ≡ some r → r .rest ≡ [] → Header bs (withRows bs (r .value))
   with-rows long few r e rest =
-      let count : length (r .value) ≡ countIn bs = rows-count (countIn bs) (drop 18 bs) r e in
+      let count : length (r .value) ≡ countIn bs = rows-count (countIn bs) (drop snapshotHeader bs) r e in
       let whole-read : rowsAfter bs ≡ some (after (r .value) []) = e ∙ ap (λ l. some (after (r .value) l)) rest in
-      let rows : RowsFrom bs 18 (r .value) = record { within = long; read = ap (λ n. readRows n (drop 18 bs)) count ∙ whole-read } in
+      let rows : RowsFrom bs snapshotHeader (r .value) = record { within = long; read = ap (λ n. readRows n (drop snapshotHeader bs)) count ∙ whole-read } in
       record { long = long; version = refl; active = refl; count = count; few = omega arith; from = rows }
 
   pub header : (s : Snapshot) → snapshotOfBytes bs ≡ some s → Header bs s
   unfolding snapshotOfBytes
-  header s e = by-bool (λ b. ltb (length bs) 18 ≡ b → Header bs s) (ltb (length bs) 18)
-      (λ _ t. let l : length bs < 18 = ltb-true (length bs) 18 t in
+  header s e = by-bool (λ b. ltb (length bs) snapshotHeader ≡ b → Header bs s) (ltb (length bs) snapshotHeader)
+      (λ _ t. let l : length bs < snapshotHeader = ltb-true (length bs) snapshotHeader t in
       none-some (sym (head-refused bs (λ h. absurd (omega arith))) ∙ read))
-      (λ _ t. let long : 18 ≤ length bs = ltb-false (length bs) 18 t in
-      by-bool (λ b. ltb 256 (countIn bs) ≡ b → Header bs s) (ltb 256 (countIn bs))
-      (λ _ t. none-some (sym (head-refused bs (λ _. ltb-true 256 (countIn bs) t)) ∙ read))
-      (λ _ t. let few : countIn bs ≤ 256 = ltb-false 256 (countIn bs) t in
+      (λ _ t. let long : snapshotHeader ≤ length bs = ltb-false (length bs) snapshotHeader t in
+      by-bool (λ b. ltb mostRows (countIn bs) ≡ b → Header bs s) (ltb mostRows (countIn bs))
+      (λ _ t. none-some (sym (head-refused bs (λ _. ltb-true mostRows (countIn bs) t)) ∙ read))
+      (λ _ t. let few : countIn bs ≤ mostRows = ltb-false mostRows (countIn bs) t in
       let rows = went-on (rowsAfter bs) (λ rs. reads (withRows bs rs)) (after s []) (sym (head-read bs long few) ∙ read) in
       let same : after (withRows bs (rows .between .value)) (rows .between .rest) ≡ after s [] = cc (rows .then) in
       subst (Header bs) (ap (λ r. r .value) same) (with-rows long few (rows .between) (rows .first) (ap (λ r. r .rest) same)))
@@ -113,5 +114,5 @@ module _ (bs : List ℕ) where
       read : readSnapshot bs ≡ some (after s [])
       read = is-whole (readSnapshot bs) s e
 
-  pub is-long : IsSnapshot bs → 18 ≤ length bs
+  pub is-long : IsSnapshot bs → snapshotHeader ≤ length bs
   is-long read = header (read .snapshot) (read .is-read) .long

@@ -8,8 +8,9 @@ use native.Mathlib.Omega.{arith}
 use borrow.Author.Tests.{eqb-true, eqb-false, eq-eqb, ne-eqb}
 use lib.Dec.{eqb}
 use lib.ListN.{length, drop, length-drop}
-use Rattle.rules.specs.SnapshotsMigrationCertificates.{Row, Snapshot, Reading, Reader, reads, goOn, _>>=_, whole, readRow, readRows, snapshotOfBytes}
+use Rattle.rules.specs.SnapshotsMigrationCertificates.{Row, Snapshot, Reading, Reader, reads, goOn, _>>=_, whole, readRow, readRows, snapshotOfBytes, mostRows}
 use Rattle.rules.proofs.Tests.{by-bool, by-option}
+use Rattle.big_endian.specs.Layout.{snapshotHeader}
 use Rattle.snapshot_reader.specs.Standing.{isRead, RowEnds}
 use Rattle.snapshot_reader.specs.declared.RowEnd.the-variants.{At, BadFrame}
 use Rattle.snapshot_reader.proofs.Header.{countIn, rowsAfter, withRows, head-read, head-refused}
@@ -29,11 +30,11 @@ later-whole left r bs = by-option (λ o. rowsWhole (goOn o (λ rs. reads (r ∷ 
 module _ (bs : List ℕ) where
   -- ── the head ─────────────────────────────────────────────────────────────────────────────────
 
-  pub refused : (18 ≤ length bs → 256 < countIn bs) → isRead (snapshotOfBytes bs) ≡ false
+  pub refused : (snapshotHeader ≤ length bs → mostRows < countIn bs) → isRead (snapshotOfBytes bs) ≡ false
   unfolding snapshotOfBytes
   refused many = ap (λ o. isRead (whole o)) (head-refused bs many)
 
-  pub by-rows : 18 ≤ length bs → countIn bs ≤ 256 → isRead (snapshotOfBytes bs) ≡ rowsWhole (rowsAfter bs)
+  pub by-rows : snapshotHeader ≤ length bs → countIn bs ≤ mostRows → isRead (snapshotOfBytes bs) ≡ rowsWhole (rowsAfter bs)
   unfolding snapshotOfBytes
   by-rows h few = ap (λ o. isRead (whole o)) (head-read bs h few) ∙ decided (rowsAfter bs)
     where

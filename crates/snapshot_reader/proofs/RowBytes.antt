@@ -12,6 +12,7 @@ use lib.Seq.{getD-drop, drop-drop}
 use Rattle.rules.specs.SnapshotsMigrationCertificates.{Row, Reader, reads, goOn, _>>=_, numberFrom, numberOf, signed, readPart, readNumber, readAmount, readName, readRow}
 use Rattle.rules.proofs.Tests.{by-bool}
 use Rattle.rules.proofs.Reading.{after}
+use Rattle.big_endian.specs.Layout.{shortestRow}
 
 -- ── readers that take the bytes from one place to another ──────────────────────────────────────
 
@@ -80,7 +81,7 @@ rowAtFront bs =
     let n : ℕ = getD bs 0 0 in
     record { name = take n (drop 1 bs); initial = amountAt (1 + n) bs; remaining = amountAt (9 + n) bs; reserved = amountAt (17 + n) bs; committed = amountAt (25 + n) bs }
 
-pub row-takes : (bs : List ℕ) → Takes bs 0 (33 + getD bs 0 0) readRow (rowAtFront bs)
+pub row-takes : (bs : List ℕ) → Takes bs 0 (shortestRow + getD bs 0 0) readRow (rowAtFront bs)
 unfolding readRow
 row-takes bs =
     let n = getD bs 0 0 in
@@ -88,13 +89,13 @@ row-takes bs =
     (takes-then _ (amount-takes bs (1 + n) (9 + n) (omega arith)) (omega arith)
     (takes-then _ (amount-takes bs (9 + n) (17 + n) (omega arith)) (omega arith)
     (takes-then _ (amount-takes bs (17 + n) (25 + n) (omega arith)) (omega arith)
-    (takes-then _ (amount-takes bs (25 + n) (33 + n) (omega arith)) (omega arith)
-    (takes-nothing bs (33 + n) (rowAtFront bs))))))
+    (takes-then _ (amount-takes bs (25 + n) (shortestRow + n) (omega arith)) (omega arith)
+    (takes-nothing bs (shortestRow + n) (rowAtFront bs))))))
 
-pub row-long : (bs : List ℕ) → 33 + getD bs 0 0 ≤ length bs → readRow bs ≡ some (record { value = rowAtFront bs; rest = drop (33 + getD bs 0 0) bs })
+pub row-long : (bs : List ℕ) → shortestRow + getD bs 0 0 ≤ length bs → readRow bs ≡ some (record { value = rowAtFront bs; rest = drop (shortestRow + getD bs 0 0) bs })
 row-long bs h = row-takes bs .long h
 
-pub row-short : (bs : List ℕ) → length bs < 33 + getD bs 0 0 → readRow bs ≡ none
+pub row-short : (bs : List ℕ) → length bs < shortestRow + getD bs 0 0 → readRow bs ≡ none
 row-short bs h = row-takes bs .short (omega arith) h
 
 -- ── a row from some byte on ────────────────────────────────────────────────────────────────────
@@ -102,7 +103,7 @@ row-short bs h = row-takes bs .short (omega arith) h
 module _ (bs : List ℕ) (at : ℕ) where
   -- the bytes of the row, by its name's length
   abbrev pub sizeAt : ℕ
-  sizeAt = 33 + getD bs at 0
+  sizeAt = shortestRow + getD bs at 0
 
   size-front : getD (drop at bs) 0 0 ≡ getD bs at 0
   size-front = getD-drop at bs 0 0 ∙ ap (λ k. getD bs k 0) (omega arith)
@@ -113,4 +114,4 @@ module _ (bs : List ℕ) (at : ℕ) where
   pub row-at : at ≤ length bs → sizeAt ≤ length bs - at → readRow (drop at bs) ≡ some (after (rowAtFront (drop at bs)) (drop (at + sizeAt) bs))
   row-at h long =
       row-long (drop at bs) (omega (arith, size-front, length-drop at bs))
-      ∙ ap (λ rest. some (after (rowAtFront (drop at bs)) rest)) (ap (λ n. drop (33 + n) (drop at bs)) size-front ∙ drop-drop sizeAt at bs)
+      ∙ ap (λ rest. some (after (rowAtFront (drop at bs)) rest)) (ap (λ n. drop (shortestRow + n) (drop at bs)) size-front ∙ drop-drop sizeAt at bs)

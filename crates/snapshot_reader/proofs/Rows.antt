@@ -15,6 +15,8 @@ use Rattle.rules.proofs.Tests.{by-bool, by-option, none-some}
 use Rattle.rules.proofs.Lists.{none-any, all-parts}
 use Rattle.rules.proofs.Reading.{after}
 use Rattle.rules.proofs.SnapshotBytes.{rowLength}
+use Rattle.rules.specs.RoomAndSoundLedger.{longestName}
+use Rattle.big_endian.specs.Layout.{rowAmounts, shortestRow}
 use Rattle.snapshot_reader.specs.Standing.{RowsFrom, RowStands, ShortNames, RowOf, Passed, EndsName}
 use Rattle.snapshot_reader.proofs.RowBytes.{amountAt, rowAtFront, row-short, row-long}
 
@@ -50,30 +52,30 @@ parted bs row later = by-option (λ o. goOn o (λ r rest. goOn (readRows (length
       others = others ∙ λ i. some (after (values i) (both i .rest));
     }))
 
-has-room : (bs : List ℕ) (row : Row) (later : List Row) → Parted bs row later → 33 + getD bs 0 0 ≤ length bs
-has-room bs row later p = by-bool (λ _. 33 + getD bs 0 0 ≤ length bs) (ltb (length bs) (33 + getD bs 0 0))
-    (λ short. none-some (sym (row-short bs (ltb-true (length bs) (33 + getD bs 0 0) short)) ∙ p .first))
-    (λ long. ltb-false (length bs) (33 + getD bs 0 0) long)
+has-room : (bs : List ℕ) (row : Row) (later : List Row) → Parted bs row later → shortestRow + getD bs 0 0 ≤ length bs
+has-room bs row later p = by-bool (λ _. shortestRow + getD bs 0 0 ≤ length bs) (ltb (length bs) (shortestRow + getD bs 0 0))
+    (λ short. none-some (sym (row-short bs (ltb-true (length bs) (shortestRow + getD bs 0 0) short)) ∙ p .first))
+    (λ long. ltb-false (length bs) (shortestRow + getD bs 0 0) long)
 
 -- the first byte is the length of its name
 pub record FirstRow (bs : List ℕ) (at : ℕ) (row : Row) (later : List Row) : Type 0 where
   pub starts : at < length bs
   pub size : getD bs at 0 ≡ length (row .name)
-  pub within : at + 33 + length (row .name) ≤ length bs
+  pub within : at + shortestRow + length (row .name) ≤ length bs
   pub is : row ≡ rowAtFront (drop at bs)
-  pub next : RowsFrom bs (at + 33 + length (row .name)) later
+  pub next : RowsFrom bs (at + shortestRow + length (row .name)) later
 
 pub first-row : {bs : List ℕ} {at : ℕ} {row : Row} {later : List Row} → RowsFrom bs at (row ∷ later) → FirstRow bs at row later
 first-row {bs} {at} {row} {later} h =
     let part : List ℕ = drop at bs in
     let p : Parted part row later = parted part row later (h .read) in
-    let room : 33 + getD part 0 0 ≤ length part = has-room part row later p in
+    let room : shortestRow + getD part 0 0 ≤ length part = has-room part row later p in
     let left : length part ≡ length bs - at = length-drop at bs in
-    let both : after (rowAtFront part) (drop (33 + getD part 0 0) part) ≡ after row (p .rest) = cc (sym (row-long part room) ∙ p .first) in
+    let both : after (rowAtFront part) (drop (shortestRow + getD part 0 0) part) ≡ after row (p .rest) = cc (sym (row-long part room) ∙ p .first) in
     let name : take (getD part 0 0) (drop 1 part) ≡ row .name = ap (λ r. r .value .name) both in
     let size : getD part 0 0 ≡ length (row .name) = sym (length-take-le (getD part 0 0) (drop 1 part) (omega (arith, length-drop 1 part))) ∙ ap length name in
-    let further : at + (33 + getD part 0 0) ≡ at + 33 + length (row .name) = omega arith in
-    let rest : drop (at + 33 + length (row .name)) bs ≡ p .rest = ap (λ k. drop k bs) (sym further) ∙ sym (drop-drop (33 + getD part 0 0) at bs) ∙ ap (λ r. r .rest) both in
+    let further : at + (shortestRow + getD part 0 0) ≡ at + shortestRow + length (row .name) = omega arith in
+    let rest : drop (at + shortestRow + length (row .name)) bs ≡ p .rest = ap (λ k. drop k bs) (sym further) ∙ sym (drop-drop (shortestRow + getD part 0 0) at bs) ∙ ap (λ r. r .rest) both in
     record {
       starts = omega arith;
       size = sym (front-byte at bs) ∙ size;
@@ -147,7 +149,7 @@ module _ {bs : List ℕ} where
   rows-apart (row ∷ rows) [] h k = absurd (omega (arith, rows-end k, first-row h .starts))
   rows-apart {at} (row ∷ rows) (other ∷ others) h k =
       let first : row ≡ other = first-row h .is ∙ sym (first-row k .is) in
-      let next = subst (λ r. RowsFrom bs (at + 33 + length (r .name)) others) (sym first) (first-row k .next) in
+      let next = subst (λ r. RowsFrom bs (at + shortestRow + length (r .name)) others) (sym first) (first-row k .next) in
       λ i. first i ∷ rows-apart rows others (first-row h .next) next i
 
 -- ── a pass over the rows ───────────────────────────────────────────────────────────────────────
@@ -180,7 +182,7 @@ module _ {bs : List ℕ} {all : List Row} {at : ℕ} {So-far : (earlier later : 
 
   -- a turn: the row is passed, and the next one starts after its four amounts
   pub advance : {After : (earlier later : List Row) → Type 0} {end : ℕ} → Passed bs all at So-far → at < length bs → Ends bs at end
-      → ((a : AtRow bs all at So-far) → After (a .earlier ++ a .row ∷ []) (a .later)) → Passed bs all (end + 32) After
+      → ((a : AtRow bs all at So-far) → After (a .earlier ++ a .row ∷ []) (a .later)) → Passed bs all (end + rowAmounts) After
   advance p h ends turn =
       let a = at-row p h in
       record {
@@ -199,16 +201,16 @@ module _ {bs : List ℕ} {all : List Row} {at : ℕ} {So-far : (earlier later : 
       (p .rows) (p .so-far)
 
 -- the next row starts further on, and not past the end
-pub forward : {bs : List ℕ} {at end : ℕ} → RowStands bs at → Ends bs at end → (at < end + 32) × (end + 32 ≤ length bs)
+pub forward : {bs : List ℕ} {at end : ℕ} → RowStands bs at → Ends bs at end → (at < end + rowAmounts) × (end + rowAmounts ≤ length bs)
 forward s ends = let e = ends (s .row) (s .later) (s .from) in (omega (arith, e .size), e .within)
 
 -- ── short names ────────────────────────────────────────────────────────────────────────────────
 
-pub short-row : {all : List Row} (earlier : List Row) (row : Row) (later : List Row) → hasLongName all ≡ false → all ≡ earlier ++ row ∷ later → length (row .name) ≤ 24
+pub short-row : {all : List Row} (earlier : List Row) (row : Row) (later : List Row) → hasLongName all ≡ false → all ≡ earlier ++ row ∷ later → length (row .name) ≤ longestName
 unfolding hasLongName
 short-row earlier row later short rows =
     let names = all-parts _ earlier (row ∷ later) (none-any _ (earlier ++ row ∷ later) (ap hasLongName (sym rows) ∙ short)) in
-    ltb-false 24 (length (row .name)) (names .1 .0)
+    ltb-false longestName (length (row .name)) (names .1 .0)
 
 pub row-of : {bs : List ℕ} {at : ℕ} {So-far : (earlier later : List Row) → Type 0} (names : ShortNames bs) → Passed bs (names .snapshot .rows) at So-far → at < length bs → RowOf bs at
 row-of names p h =

@@ -7,6 +7,7 @@ use Prim.Native.Nat.{ℕ, _+_, _≤_}
 use lib.ListN.{length, take, drop}
 use Rattle.rules.specs.RoomAndSoundLedger.{Name}
 use Rattle.rules.specs.SnapshotsMigrationCertificates.{Row, Snapshot, Reading, readRow, readRows, snapshotOfBytes, hasLongName}
+use Rattle.big_endian.specs.Layout.{rowAmounts}
 use Rattle.snapshot_reader.specs.declared.StandingRow.{StandingRow}
 use Rattle.snapshot_reader.specs.declared.RowEnd.{RowEnd}
 use Rattle.snapshot_reader.specs.declared.RowEnd.the-variants.{At, BadFrame}
@@ -75,8 +76,8 @@ RowEnds bs at (some reading) BadFrame = ⊥
 pub record EndsName (bs : List ℕ) (at : ℕ) (r : Row) (later : List Row) (end : ℕ) : Type 0 where
   pub size : end ≡ at + 1 + length (r .name)
   pub name : take (length (r .name)) (drop (at + 1) bs) ≡ r .name
-  pub within : end + 32 ≤ length bs
-  pub next : RowsFrom bs (end + 32) later
+  pub within : end + rowAmounts ≤ length bs
+  pub next : RowsFrom bs (end + rowAmounts) later
 
 -- the four amounts of a row, and where it ends
 pub record ReadsRow (bs : List ℕ) (at : ℕ) (r : Row) (later : List Row) (read : StandingRow) : Type 0 where
@@ -85,4 +86,4 @@ pub record ReadsRow (bs : List ℕ) (at : ℕ) (r : Row) (later : List Row) (rea
   pub remaining : read .remaining .0 ≡ r .remaining
   pub reserved : read .reserved .0 ≡ r .reserved
   pub committed : read .committed .0 ≡ r .committed
-  pub end : read .end ≡ read .«name_end» + 32
+  pub end : read .end ≡ read .«name_end» + rowAmounts

@@ -7,6 +7,11 @@ ghost use lib.ListN.{length, drop};
 ghost use Rattle.rules.specs.SnapshotsMigrationCertificates.{Row, readRow, snapshotOfBytes, hasLongName};
 ghost use Rattle.snapshot_reader.specs.Standing.{isRead, IsSnapshot, RowsFrom, RowStands, RowEnds, EndsName, ReadsRow, OfSnapshot};
 
+// As wide as what is read: a row count, and a name's length.
+const MOST_ROWS: u64 = rules::MOST_NAMES as u64;
+
+const LONGEST_NAME: u8 = rules::LONGEST_NAME as u8;
+
 // A row's amounts, where its name ends (it starts after its length), and where the row ends.
 pub struct StandingRow {
     pub initial: Microcents,
@@ -30,7 +35,7 @@ fn row_end(bytes: &[u8], at: usize) -> RowEnd
     if left == 0 {
         return RowEnd::BadFrame;
     }
-    let size = 33 + bytes[at] as usize;
+    let size = rules::SHORTEST_ROW + bytes[at] as usize;
     if left < size {
         return RowEnd::BadFrame;
     }
@@ -41,14 +46,14 @@ fn row_end(bytes: &[u8], at: usize) -> RowEnd
 pub fn is_snapshot(bytes: &[u8]) -> bool
     ensures { λ r. ⌜ r ≡ isRead (snapshotOfBytes (now (bytes .entry))) ⌝ }
 {
-    if bytes.len() < 18 {
+    if bytes.len() < rules::SNAPSHOT_HEADER {
         return false;
     }
-    let mut left = big_endian::read2(&bytes[16..18]);
-    if 256 < left {
+    let mut left = big_endian::read2(&bytes[rules::COUNT_START..rules::SNAPSHOT_HEADER]);
+    if MOST_ROWS < left {
         return false;
     }
-    let mut at = 18;
+    let mut at = rules::SNAPSHOT_HEADER;
     while 0 < left {
         let RowEnd::At(end) = row_end(bytes, at) else {
             return false;
@@ -63,21 +68,21 @@ pub fn version(bytes: &[u8]) -> u64
     requires { ⌜ IsSnapshot (now bytes) ⌝ }
     ensures { λ r. ⌜ OfSnapshot (now (bytes .entry)) (λ s. r ≡ s .version) ⌝ }
 {
-    big_endian::read8(&bytes[0..8])
+    big_endian::read8(&bytes[0..rules::ACTIVE_START])
 }
 
 pub fn active(bytes: &[u8]) -> u64
     requires { ⌜ IsSnapshot (now bytes) ⌝ }
     ensures { λ r. ⌜ OfSnapshot (now (bytes .entry)) (λ s. r ≡ s .active) ⌝ }
 {
-    big_endian::read8(&bytes[8..16])
+    big_endian::read8(&bytes[rules::ACTIVE_START..rules::COUNT_START])
 }
 
 pub fn count(bytes: &[u8]) -> u64
     requires { ⌜ IsSnapshot (now bytes) ⌝ }
     ensures { λ r. ⌜ OfSnapshot (now (bytes .entry)) (λ s. r ≡ length (s .rows)) ⌝ }
 {
-    big_endian::read2(&bytes[16..18])
+    big_endian::read2(&bytes[rules::COUNT_START..rules::SNAPSHOT_HEADER])
 }
 
 pub fn name_end(bytes: &[u8], at: usize) -> usize
@@ -95,7 +100,7 @@ pub fn read_row(bytes: &[u8], at: usize) -> StandingRow
     let second = name_end + 8;
     let third = name_end + 16;
     let fourth = name_end + 24;
-    let end = name_end + 32;
+    let end = name_end + rules::ROW_AMOUNTS;
     StandingRow {
         initial: big_endian::read_amount(&bytes[name_end..second]),
         remaining: big_endian::read_amount(&bytes[second..third]),
@@ -111,12 +116,12 @@ pub fn has_long_name(bytes: &[u8]) -> bool
     requires { ⌜ IsSnapshot (now bytes) ⌝ }
     ensures { λ r. ⌜ OfSnapshot (now (bytes .entry)) (λ s. r ≡ hasLongName (s .rows)) ⌝ }
 {
-    let mut at = 18;
+    let mut at = rules::SNAPSHOT_HEADER;
     while at < bytes.len() {
-        if 24 < bytes[at] {
+        if LONGEST_NAME < bytes[at] {
             return true;
         }
-        at = name_end(bytes, at) + 32;
+        at = name_end(bytes, at) + rules::ROW_AMOUNTS;
     }
     false
 }

@@ -16,6 +16,7 @@ use Rattle.rules.specs.Frames.{takeSnapshot, longestSnapshot, answer}
 use Rattle.rules.proofs.Tests.{by-test, by-bool}
 use Rattle.rules.proofs.SnapshotSoundness.{answer-sound}
 use Rattle.rules.proofs.EveryLine.{own-snapshot-has-room}
+use Rattle.big_endian.specs.Layout.{snapshotHeader, longestRow}
 use Rattle.records.specs.Records.{sizesOf}
 use Rattle.records.specs.declared.Head.{Head}
 use Rattle.records.specs.declared.Sizes.{Sizes}
@@ -37,13 +38,13 @@ at-most m n = by-bool (λ b. ltb n m ≡ b → leb m n ≡ not b) (ltb n m) (λ 
 
 module _ (L : Ledger) (size : ℕ) where
   -- the rows measured
-  pub measured : (n : ℕ) → n ≡ length (flatMap rowBytes (accountRows (L .places))) → leb (18 + n) size ≡ not (tooShortFor size (snapshotOf L))
+  pub measured : (n : ℕ) → n ≡ length (flatMap rowBytes (accountRows (L .places))) → leb (snapshotHeader + n) size ≡ not (tooShortFor size (snapshotOf L))
   measured n e =
-      let all : 18 + n ≡ length (snapshotBytes (snapshotOf L)) = omega (arith, snapshot-size (snapshotOf L)) in
+      let all : snapshotHeader + n ≡ length (snapshotBytes (snapshotOf L)) = omega (arith, snapshot-size (snapshotOf L)) in
       ap (λ m. leb m size) all ∙ at-most (length (snapshotBytes (snapshotOf L))) size
 
   -- room for the longest names
-  pub plenty : (xs : List ℕ) → IsRoom xs L → 18 + 57 * sizesOf xs .used ≤ size → true ≡ not (tooShortFor size (snapshotOf L))
+  pub plenty : (xs : List ℕ) → IsRoom xs L → snapshotHeader + longestRow * sizesOf xs .used ≤ size → true ≡ not (tooShortFor size (snapshotOf L))
   plenty xs room h = sym (ap not (le-ltb size (length (snapshotBytes (snapshotOf L))) (omega (arith, snapshot-size (snapshotOf L), rows-most xs L room))))
 
   -- ── the outcomes of the rules ────────────────────────────────────────────────────────────────
@@ -84,8 +85,8 @@ module _ (L : Ledger) where
 abbrev pub WrittenInto : (before after : List ℕ) (end : ℕ) → Snapshot → Type 0
 WrittenInto before after end s = (take end after ≡ snapshotBytes s) × (after ≡ outputAfter (snapshotReply after (snapshotted.Written end)) before)
 
-module _ (s : Snapshot) (before rows after : List ℕ) (e : Extent) (room : 18 ≤ length before) (written : WritesRows (s .rows) before rows e)
-    (header : after ≡ headerBytes (s .version) (s .active) (e .rows) ++ drop 18 rows) where
+module _ (s : Snapshot) (before rows after : List ℕ) (e : Extent) (room : snapshotHeader ≤ length before) (written : WritesRows (s .rows) before rows e)
+    (header : after ≡ headerBytes (s .version) (s .active) (e .rows) ++ drop snapshotHeader rows) where
   end-is : length (snapshotBytes s) ≡ e .end
   end-is = omega (arith, snapshot-size s, written .end)
 
@@ -93,7 +94,7 @@ module _ (s : Snapshot) (before rows after : List ℕ) (e : Extent) (room : 18 �
   unfolding snapshotBytes
   output-is =
       let rest = flatMap rowBytes (s .rows) ++ drop (e .end) before in
-      let behind : drop 18 rows ≡ rest = ap (drop 18) (written .output ∙ append-assoc (take 18 before) _ _) ∙ drop-at (take 18 before) rest 18 (length-take-le 18 before room) in
+      let behind : drop snapshotHeader rows ≡ rest = ap (drop snapshotHeader) (written .output ∙ append-assoc (take snapshotHeader before) _ _) ∙ drop-at (take snapshotHeader before) rest snapshotHeader (length-take-le snapshotHeader before room) in
       header ∙ ap₂ (λ n r. headerBytes (s .version) (s .active) n ++ r) (written .rows) behind ∙ sym (append-assoc (headerBytes (s .version) (s .active) (length (s .rows))) _ _)
 
   pub written-out : WrittenInto before after (e .end) s

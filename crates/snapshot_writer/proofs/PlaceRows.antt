@@ -10,16 +10,17 @@ use lib.Dec.{eqb}
 use lib.ListN.{length, take, drop, getD, length-append, take-append-drop}
 use lib.Seq.{take-suc, take-all}
 use Rattle.rules.specs.Lists.{sum, All}
-use Rattle.rules.specs.RoomAndSoundLedger.{IsName, Account, Place as RulesPlace, Ledger}
-use Rattle.rules.specs.SnapshotsMigrationCertificates.{Row, Snapshot, rowBytes, snapshotBytes, rowOf, rowAt, accountRows}
+use Rattle.rules.specs.RoomAndSoundLedger.{IsName, Account, Place as RulesPlace, Ledger, longestName}
+use Rattle.rules.specs.SnapshotsMigrationCertificates.{Row, Snapshot, rowBytes, snapshotBytes, rowOf, rowAt, accountRows, mostRows}
 use Rattle.rules.proofs.Tests.{by-bool}
-use Rattle.rules.proofs.Lists.{all-map}
+use Rattle.rules.proofs.Lists.{all-map, flatMap-append, flatMap-one}
 use Rattle.rules.proofs.Keys.{all-images}
 use Rattle.rules.proofs.Numbers.{bytes-length}
 use Rattle.rules.proofs.SnapshotBytes.{snapshot-length}
 use Rattle.names.specs.Names.{spelled}
 use Rattle.names.proofs.Storing.{spelled-stored}
 use Rattle.moves.specs.Moves.{kept, keptSeat}
+use Rattle.records.specs.Layout.{placeSize, placeStart}
 use Rattle.records.specs.Rows.{row}
 use Rattle.records.specs.Records.{sizesOf, placeOf}
 use Rattle.records.specs.declared.Place.{Place}
@@ -29,16 +30,16 @@ use Rattle.rules.proofs.ByIndex.{all-read}
 use Rattle.room.proofs.InRoom.{used-places, loaded-place, name-in-room}
 use Rattle.room.proofs.SoundRoom.{places-are, sized, names-stored}
 use Rattle.snapshot_writer.specs.Rows.{rowInPlace, WritesRows}
-use Rattle.rules.proofs.Lists.{flatMap-append, flatMap-one}
+use Rattle.big_endian.specs.Layout.{snapshotHeader, shortestRow, longestRow}
 use Rattle.snapshot_writer.specs.Output.{rowOfPlace, rowSize}
 
 -- ── how long rows are ──────────────────────────────────────────────────────────────────────────
 
-pub snapshot-size : (s : Snapshot) → length (snapshotBytes s) ≡ 18 + length (flatMap rowBytes (s .rows))
+pub snapshot-size : (s : Snapshot) → length (snapshotBytes s) ≡ snapshotHeader + length (flatMap rowBytes (s .rows))
 unfolding snapshotBytes
 snapshot-size s = simp (length-append, bytes-length) (omega arith)
 
-rows-length : (rs : List Row) → length (flatMap rowBytes rs) ≡ sum (λ r. 33 + length (r .name)) rs
+rows-length : (rs : List Row) → length (flatMap rowBytes rs) ≡ sum (λ r. shortestRow + length (r .name)) rs
 rows-length rs = let s : Snapshot = record { version = 0; active = 0; rows = rs } in omega (arith, snapshot-size s, snapshot-length s)
 
 -- the name's bytes are as many as its length says
@@ -49,7 +50,7 @@ place-size : (p : Place) → IsSpelled p → length (flatMap rowBytes (rowOfPlac
 unfolding sum
 place-size p e =
     rows-length (rowOfPlace p)
-    ∙ by-bool (λ b. sum (λ r. 33 + length (r .name)) (cond b [] (rowInPlace p ∷ [])) ≡ cond b 0 (33 + p .name .length)) (eqb (p .account) 0) (λ _. refl) (λ _. omega (arith, e))
+    ∙ by-bool (λ b. sum (λ r. shortestRow + length (r .name)) (cond b [] (rowInPlace p ∷ [])) ≡ cond b 0 (shortestRow + p .name .length)) (eqb (p .account) 0) (λ _. refl) (λ _. omega (arith, e))
 
 -- ── a place of the rules ───────────────────────────────────────────────────────────────────────
 
@@ -80,9 +81,12 @@ pub size-none : (xs : List ℕ) → sizeTo xs 0 ≡ 0
 unfolding flatMap
 size-none xs = refl
 
-pub none-written : (xs output : List ℕ) → WritesRows (rowsTo xs 0) output output (record { rows = 0; end = 18 })
+pub none-written : (xs output : List ℕ) → WritesRows (rowsTo xs 0) output output (record { rows = 0; end = snapshotHeader })
 unfolding flatMap
-none-written xs output = record { rows = refl; end = refl; output = rw append-nil (sym (take-append-drop 18 output)) }
+none-written xs output =
+    let front = take snapshotHeader output in
+    let past = drop snapshotHeader output in
+    record { rows = refl; end = refl; output = sym (ap (λ l. l ++ past) (append-nil front) ∙ take-append-drop snapshotHeader output) }
 
 -- no more rows than places
 rows-few : (ps : List Place) (i : ℕ) → length (flatMap rowOfPlace (take i ps)) ≤ i
@@ -101,14 +105,14 @@ module _ (xs : List ℕ) (L : Ledger) (room : IsRoom xs L) where
   inUse = usedPlaces (contentsOf xs)
 
   abbrev loaded : ℕ → Place
-  loaded i = placeOf (row 66 (56 + 66 * i) xs)
+  loaded i = placeOf (row placeSize (placeStart i) xs)
 
   all-spelled : All IsSpelled inUse
   unfolding placeRecord
   all-spelled = rw (places-are xs L room)
       (all-images placeRecord IsSpelled (L .places) (all-map (λ p. IsName (p .name)) (λ p. length (spelled (placeRecord p .name)) ≡ length (p .name)) (λ p _. ap length (spelled-stored (p .name))) (L .places) (room .sound .are-names)))
 
-  pub used-most : sizesOf xs .used ≤ 256
+  pub used-most : sizesOf xs .used ≤ mostRows
   used-most = let s = sized xs L room in omega (arith, s .used, s .names)
 
   module _ (i : ℕ) (h : i < sizesOf xs .used) where
@@ -119,7 +123,7 @@ module _ (xs : List ℕ) (L : Ledger) (room : IsRoom xs L) where
     within = omega (arith, used-places xs (sized xs L room))
 
     -- what `load_place` asks, and what `append_account` asks of what it gives
-    pub place-in-room : (56 + 66 * i + 66 ≤ length xs) × (loaded i .name .length ≤ 24)
+    pub place-in-room : (placeStart i + placeSize ≤ length xs) × (loaded i .name .length ≤ longestName)
     place-in-room = name-in-room xs (sized xs L room) i (names-stored xs L room) h
 
     pub rows-next : rowsTo xs (i + 1) ≡ rowsTo xs i ++ rowOfPlace (loaded i)
@@ -147,14 +151,14 @@ module _ (xs : List ℕ) (L : Ledger) (room : IsRoom xs L) where
       rw (← split, flatMap-append rowOfPlace, flatMap-append rowBytes, length-append) (omega arith)
 
   -- a row is at most 57 bytes long
-  pub size-most : (i : ℕ) → i ≤ sizesOf xs .used → sizeTo xs i ≤ 57 * i
+  pub size-most : (i : ℕ) → i ≤ sizesOf xs .used → sizeTo xs i ≤ longestRow * i
   unfolding flatMap
   size-most zero h = omega arith
   size-most (suc i) h =
       let next : sizeTo xs (suc i) ≡ sizeTo xs i + rowSize (loaded i) = ap (sizeTo xs) (sym (add-one i)) ∙ size-next i h in
-      omega (arith, next, size-most i (omega arith), by-bool (λ b. cond b 0 (33 + loaded i .name .length) ≤ 57) (eqb (loaded i .account) 0) (λ _. omega arith) (λ _. omega (arith, place-in-room i h .1)))
+      omega (arith, next, size-most i (omega arith), by-bool (λ b. cond b 0 (shortestRow + loaded i .name .length) ≤ longestRow) (eqb (loaded i .account) 0) (λ _. omega arith) (λ _. omega (arith, place-in-room i h .1)))
 
-  pub rows-most : length (flatMap rowBytes (accountRows (L .places))) ≤ 57 * sizesOf xs .used
+  pub rows-most : length (flatMap rowBytes (accountRows (L .places))) ≤ longestRow * sizesOf xs .used
   rows-most =
       let n = sizesOf xs .used in
       let all : sizeTo xs n ≡ length (flatMap rowBytes (accountRows (L .places))) = ap (λ rs. length (flatMap rowBytes rs)) (rows-all n (omega arith)) in

@@ -6,6 +6,7 @@ use lib.Dec.{eqb}
 use lib.ListN.{length, take, drop}
 use Rattle.rules.specs.AnswerNumbers.{Value, Amount, Identifier, Version, Fence, Count, Field, YesOrNo, TheName, SnapshotBytes, Reply, AllocatorExhausted, OutputTooShort, UnsoundLedger, done, replyOf}
 use Rattle.rules.specs.SnapshotsMigrationCertificates.{Row}
+use Rattle.big_endian.specs.Layout.{shortestRow}
 use Rattle.records.specs.declared.Place.{Place}
 use Rattle.snapshot_writer.specs.Rows.{rowInPlace}
 use Rattle.snapshot_writer.specs.declared.Snapshotted.{Snapshotted}
@@ -17,7 +18,7 @@ rowOfPlace p = cond (eqb (p .account) 0) [] (rowInPlace p ∷ [])
 
 -- its length: the name's length, the name and four amounts
 abbrev pub rowSize : Place → ℕ
-rowSize p = cond (eqb (p .account) 0) 0 (33 + p .name .length)
+rowSize p = cond (eqb (p .account) 0) 0 (shortestRow + p .name .length)
 
 -- the snapshot stands at the front of the output
 abbrev pub snapshotReply : (output : List ℕ) → Snapshotted → Reply

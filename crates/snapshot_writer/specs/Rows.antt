@@ -5,6 +5,7 @@ use Prim.Native.Nat.{ℕ, _+_}
 use lib.IntN.{pos}
 use lib.ListN.{length, take, drop}
 use Rattle.rules.specs.SnapshotsMigrationCertificates.{Row, bytesOf, rowBytes}
+use Rattle.big_endian.specs.Layout.{snapshotHeader}
 use Rattle.names.specs.Names.{spelled}
 use Rattle.records.specs.declared.Place.{Place}
 use Rattle.snapshot_writer.specs.declared.Extent.{Extent}
@@ -23,5 +24,5 @@ headerBytes version active count = bytesOf 8 version ++ bytesOf 8 active ++ byte
 -- these rows stand in the output after the room for the header; what stood past them stands there still
 pub record WritesRows (rs : List Row) (before after : List ℕ) (e : Extent) : Type 0 where
   pub rows : e .rows ≡ length rs
-  pub end : e .end ≡ 18 + length (flatMap rowBytes rs)
-  pub output : after ≡ take 18 before ++ flatMap rowBytes rs ++ drop (e .end) before
+  pub end : e .end ≡ snapshotHeader + length (flatMap rowBytes rs)
+  pub output : after ≡ take snapshotHeader before ++ flatMap rowBytes rs ++ drop (e .end) before

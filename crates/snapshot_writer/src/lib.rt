@@ -6,7 +6,9 @@ ghost use mathlib.Core.Bool.{not};
 ghost use mathlib.Core.List.{List, [], _∷_, _++_, flatMap};
 ghost use Prim.Native.Nat.{ℕ, _+_, _≤_, _<_};
 ghost use lib.ListN.{length, drop};
-ghost use Rattle.rules.specs.SnapshotsMigrationCertificates.{Row, rowBytes, accountRows, snapshotOf, tooShortFor, snapshot, outputAfter};
+ghost use Rattle.rules.specs.SnapshotsMigrationCertificates.{Row, rowBytes, accountRows, snapshotOf, tooShortFor, snapshot, outputAfter, mostRows};
+ghost use Rattle.rules.specs.RoomAndSoundLedger.{longestName};
+ghost use Rattle.big_endian.specs.Layout.{snapshotHeader, rowAmounts, shortestRow};
 ghost use Rattle.room.specs.Room.{SoundRoom, Performs, OfRoom};
 ghost use Rattle.snapshot_writer.specs.Rows.{rowInPlace, amountsBytes, headerBytes, WritesRows};
 ghost use Rattle.snapshot_writer.specs.Output.{rowSize, rowOfPlace, snapshotReply, SizeWithin};
@@ -25,17 +27,17 @@ pub struct Extent {
 }
 
 fn write_amounts(part: &mut [u8], place: Place)
-    requires { ⌜ length (now part) ≡ 32 ⌝ }
+    requires { ⌜ length (now part) ≡ rowAmounts ⌝ }
     ensures { λ _. ⌜ now (part .exit) ≡ amountsBytes place ⌝ }
 {
     big_endian::write8(&mut part[0..8], place.initial);
     big_endian::write8(&mut part[8..16], place.remaining);
     big_endian::write8(&mut part[16..24], place.reserved);
-    big_endian::write8(&mut part[24..32], place.committed);
+    big_endian::write8(&mut part[24..rules::ROW_AMOUNTS], place.committed);
 }
 
 fn write_row(part: &mut [u8], place: Place)
-    requires { ⌜ (length (now part) ≡ 33 + place .name .length) × (place .name .length ≤ 24) ⌝ }
+    requires { ⌜ (length (now part) ≡ shortestRow + place .name .length) × (place .name .length ≤ longestName) ⌝ }
     ensures { λ _. ⌜ now (part .exit) ≡ rowBytes (rowInPlace place) ⌝ }
 {
     let name = place.name;
@@ -46,14 +48,14 @@ fn write_row(part: &mut [u8], place: Place)
 
 // One row more, behind those written.
 pub fn append_row(output: &mut [u8], extent: Extent, place: Place) -> Extent
-    requires room { ⌜ extent .end + (33 + place .name .length) ≤ length (now output) ⌝ }
-    requires short { ⌜ place .name .length ≤ 24 ⌝ }
-    requires few { ⌜ extent .rows < 256 ⌝ }
+    requires room { ⌜ extent .end + (shortestRow + place .name .length) ≤ length (now output) ⌝ }
+    requires short { ⌜ place .name .length ≤ longestName ⌝ }
+    requires few { ⌜ extent .rows < mostRows ⌝ }
     ensures { λ r. ⌜ ((before : List ℕ) (rs : List Row) → WritesRows rs before (now (output .entry)) extent → WritesRows (rs ++ rowInPlace place ∷ []) before (now (output .exit)) r) ⌝ }
 {
     let name = place.name;
     let from = extent.end;
-    let end = from + 33 + name.length as usize;
+    let end = from + rules::SHORTEST_ROW + name.length as usize;
     write_row(&mut output[from..end], place);
     Extent {
         rows: extent.rows + 1,
@@ -62,12 +64,15 @@ pub fn append_row(output: &mut [u8], extent: Extent, place: Place) -> Extent
 }
 
 pub fn write_header(output: &mut [u8], version: u64, active: u64, rows: u64)
-    requires { ⌜ 18 ≤ length (now output) ⌝ }
-    ensures { λ _. ⌜ now (output .exit) ≡ headerBytes version active rows ++ drop 18 (now (output .entry)) ⌝ }
+    requires { ⌜ snapshotHeader ≤ length (now output) ⌝ }
+    ensures { λ _. ⌜ now (output .exit) ≡ headerBytes version active rows ++ drop snapshotHeader (now (output .entry)) ⌝ }
 {
-    big_endian::write8(&mut output[0..8], version);
-    big_endian::write8(&mut output[8..16], active);
-    big_endian::write2(&mut output[16..18], rows);
+    big_endian::write8(&mut output[0..rules::ACTIVE_START], version);
+    big_endian::write8(&mut output[rules::ACTIVE_START..rules::COUNT_START], active);
+    big_endian::write2(
+        &mut output[rules::COUNT_START..rules::SNAPSHOT_HEADER],
+        rows,
+    );
 }
 
 // A name with a limit alone is not a row.
@@ -76,7 +81,7 @@ fn row_size(place: Place) -> usize
 {
     if place.account != 0 {
         let name = place.name;
-        return 33 + name.length as usize;
+        return rules::SHORTEST_ROW + name.length as usize;
     }
     0
 }
@@ -102,18 +107,18 @@ fn has_room(room: &[u8], size: usize) -> bool
     ensures { λ r. ⌜ OfRoom (now (room .entry)) (λ L. r ≡ not (tooShortFor size (snapshotOf L))) ⌝ }
 {
     let sizes = records::load_sizes(room);
-    let longest = 18 + 57 * (sizes.used as usize);
+    let longest = rules::SNAPSHOT_HEADER + rules::LONGEST_ROW * (sizes.used as usize);
     if longest <= size {
         return true;
     }
-    18 + rows_size(room) <= size
+    rules::SNAPSHOT_HEADER + rows_size(room) <= size
 }
 
 // A name with a limit alone is not a row.
 fn append_account(output: &mut [u8], extent: Extent, place: Place) -> Extent
     requires room { ⌜ extent .end + rowSize place ≤ length (now output) ⌝ }
-    requires short { ⌜ place .name .length ≤ 24 ⌝ }
-    requires few { ⌜ extent .rows < 256 ⌝ }
+    requires short { ⌜ place .name .length ≤ longestName ⌝ }
+    requires few { ⌜ extent .rows < mostRows ⌝ }
     ensures { λ r. ⌜ ((before : List ℕ) (rs : List Row) → WritesRows rs before (now (output .entry)) extent → WritesRows (rs ++ rowOfPlace place) before (now (output .exit)) r) ⌝ }
 {
     if place.account == 0 {
@@ -124,12 +129,15 @@ fn append_account(output: &mut [u8], extent: Extent, place: Place) -> Extent
 
 // "Accounts ascend by name": the places do. One pass over them.
 fn write_rows(room: &[u8], output: &mut [u8]) -> Extent
-    requires { ⌜ SoundRoom (now room) × (OfRoom (now room) (λ L. 18 + length (flatMap rowBytes (accountRows (L .places))) ≤ length (now output))) ⌝ }
+    requires { ⌜ SoundRoom (now room) × (OfRoom (now room) (λ L. snapshotHeader + length (flatMap rowBytes (accountRows (L .places))) ≤ length (now output))) ⌝ }
     ensures { λ r. ⌜ OfRoom (now (room .entry)) (λ L. WritesRows (accountRows (L .places)) (now (output .entry)) (now (output .exit)) r) ⌝ }
 {
     let sizes = records::load_sizes(room);
     let used = sizes.used as usize;
-    let mut extent = Extent { rows: 0, end: 18 };
+    let mut extent = Extent {
+        rows: 0,
+        end: rules::SNAPSHOT_HEADER,
+    };
     let mut i = 0;
     while i < used {
         extent = append_account(output, extent, records::load_place(room, i));

@@ -7,7 +7,11 @@ ghost use lib.Signed.{mag};
 ghost use Rattle.totals.specs.Totals.{valueOf, Moved, fitted};
 
 // 2^63: a low word from here on has its own sign set.
-const HALF: u64 = 9223372036854775808;
+const HALF: u64 = rules::M + 1;
+
+const GREATEST_WORD: u64 = 2 * rules::M + 1;
+
+const GREATEST: i64 = rules::M as i64;
 
 pub struct Total {
     pub high: i64,
@@ -37,7 +41,7 @@ pub fn plus(total: Total, amount: Microcents) -> Total
     let low = total.low;
     let x = amount.0;
     let word = big_endian::word_of(amount);
-    let room = 18446744073709551615 - word;
+    let room = GREATEST_WORD - word;
     if 0 <= x {
         if low <= room {
             return Total {
@@ -69,8 +73,8 @@ pub fn minus(total: Total, amount: Microcents) -> Total
     ensures moved { λ r. ⌜ Moved (mag (total .high) + 2) r ⌝ }
 {
     let x = amount.0;
-    if x == -9223372036854775808 {
-        let most = plus(total, Microcents(9223372036854775807));
+    if x == big_endian::LEAST {
+        let most = plus(total, Microcents(GREATEST));
         return plus(most, Microcents(1));
     }
     plus(total, Microcents(-x))

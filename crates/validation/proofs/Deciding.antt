@@ -11,7 +11,7 @@ use denote.Enum.Declared.{tagOf, declared}
 use lib.IntN.{ℤ, pos, negsuc}
 use lib.Signed.{mag}
 use types.Run.{OneOf, miss}
-use Rattle.rules.specs.RoomAndSoundLedger.{Name}
+use Rattle.rules.specs.RoomAndSoundLedger.{Name, longestName}
 use Rattle.rules.specs.AnswerNumbers.{Refusal}
 use Rattle.rules.specs.SnapshotsMigrationCertificates.{_gives_else_, andThen, isNegative, equals}
 use Rattle.rules.proofs.Tests.{by-bool}
@@ -75,5 +75,5 @@ unfolding andThen
 passes-on a v later e = ap (λ u. andThen (refusalOf a u) later) e
 
 -- a verdict that is of no row has the empty name
-pub nameless-short : {j : Judged} {v : Verdict} → j ≡ nameless v → j .name .length ≤ 24
-nameless-short e = subst (λ j. j .name .length ≤ 24) (sym e) (omega arith)
+pub nameless-short : {j : Judged} {v : Verdict} → j ≡ nameless v → j .name .length ≤ longestName
+nameless-short e = subst (λ j. j .name .length ≤ longestName) (sym e) (omega arith)

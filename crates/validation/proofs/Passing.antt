@@ -6,6 +6,7 @@ use Prim.Native.Nat.{ℕ, _+_, _≤_, _<_}
 use lib.ListN.{length}
 use Rattle.rules.specs.AnswerNumbers.{Refusal}
 use Rattle.rules.specs.SnapshotsMigrationCertificates.{Row, Snapshot, snapshotOfBytes, andThen, rowConservation, conservation, rowValidation, rowsValidation}
+use Rattle.big_endian.specs.Layout.{snapshotHeader, rowAmounts}
 use Rattle.names.specs.Names.{spelled}
 use Rattle.names.specs.declared.Name.{Name}
 use Rattle.snapshot_reader.specs.Standing.{RowStands, ShortNames, RowOf, Passed}
@@ -58,7 +59,7 @@ pub standing : {bytes : List ℕ} {at : ℕ} → RowOf bytes at → RowStands by
 standing here = record { row = here .row; later = here .later; from = here .from }
 
 module _ (pass : Pass) where
-  pub first : {bytes : List ℕ} → Coming pass bytes 18
+  pub first : {bytes : List ℕ} → Coming pass bytes snapshotHeader
   first names = start (header _ (names .snapshot) (names .is-read) .from) refl
 
   module _ {bytes : List ℕ} {at : ℕ} (coming : Coming pass bytes at) (more : at < length bytes) where
@@ -78,7 +79,7 @@ module _ (pass : Pass) where
           ∙ ap (λ o. andThen o others) (judged here)
           ∙ sym (a .so-far ∙ pass .step (a .earlier) (a .row) (a .later))
 
-      pub goes-on : {end : ℕ} → Ends bytes at end → v ≡ Done → Coming pass bytes (end + 32)
+      pub goes-on : {end : ℕ} → Ends bytes at end → v ≡ Done → Coming pass bytes (end + rowAmounts)
       goes-on ends done names =
           advance (coming names) more ends
           (λ a.

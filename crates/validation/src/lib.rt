@@ -6,7 +6,7 @@ ghost use mathlib.Core.Path.{_≡_};
 ghost use Prim.Native.Nat.{ℕ, _≤_};
 ghost use mathlib.Core.List.{List, []};
 ghost use Rattle.rules.specs.Lists.{any};
-ghost use Rattle.rules.specs.RoomAndSoundLedger.{same};
+ghost use Rattle.rules.specs.RoomAndSoundLedger.{same, longestName};
 ghost use Rattle.rules.specs.SnapshotsMigrationCertificates.{rowConservation, conservation, rowValidation, rowsValidation, validation, status};
 ghost use Rattle.names.specs.Names.{spelled};
 ghost use Rattle.snapshot_reader.specs.Standing.{IsSnapshot, ShortNames, RowOf, OfSnapshot};
@@ -41,7 +41,7 @@ pub struct Judged {
 pub fn nameless(verdict: Verdict) -> Judged
     ensures { λ r. ⌜ r ≡ nameless verdict ⌝ }
 {
-    let bytes = [0u8; 24];
+    let bytes = [0u8; rules::LONGEST_NAME];
     let name = Name { length: 0, bytes };
     Judged { name, verdict }
 }
@@ -77,7 +77,7 @@ fn balance_of(
 fn name_at(bytes: &[u8], at: usize) -> Name
     requires { ⌜ RowOf (now bytes) at ⌝ }
     ensures name { λ r. ⌜ ((here : RowOf (now (bytes .entry)) at) → spelled r ≡ here .row .name) ⌝ }
-    ensures short { λ r. ⌜ r .length ≤ 24 ⌝ }
+    ensures short { λ r. ⌜ r .length ≤ longestName ⌝ }
 {
     let from = at + 1;
     let end = snapshot_reader::name_end(bytes, at);
@@ -96,16 +96,16 @@ fn row_conservation(bytes: &[u8], at: usize) -> Verdict
 pub fn conservation(bytes: &[u8]) -> Judged
     requires { ⌜ ShortNames (now bytes) ⌝ }
     ensures refusal { λ r. ⌜ OfSnapshot (now (bytes .entry)) (λ s. refusalIn r ≡ conservation (s .rows)) ⌝ }
-    ensures short { λ r. ⌜ r .name .length ≤ 24 ⌝ }
+    ensures short { λ r. ⌜ r .name .length ≤ longestName ⌝ }
 {
-    let mut at = 18;
+    let mut at = rules::SNAPSHOT_HEADER;
     while at < bytes.len() {
         let verdict = row_conservation(bytes, at);
         let Verdict::Done = verdict else {
             let name = name_at(bytes, at);
             return Judged { name, verdict };
         };
-        at = snapshot_reader::name_end(bytes, at) + 32;
+        at = snapshot_reader::name_end(bytes, at) + rules::ROW_AMOUNTS;
     }
     nameless(Verdict::Done)
 }
@@ -117,14 +117,14 @@ fn seen_earlier(bytes: &[u8], at: usize) -> bool
 {
     let from = at + 1;
     let end = snapshot_reader::name_end(bytes, at);
-    let mut earlier = 18;
+    let mut earlier = rules::SNAPSHOT_HEADER;
     while earlier < at {
         let earlier_from = earlier + 1;
         let earlier_end = snapshot_reader::name_end(bytes, earlier);
         if names::is_same(&bytes[from..end], &bytes[earlier_from..earlier_end]) {
             return true;
         }
-        earlier = earlier_end + 32;
+        earlier = earlier_end + rules::ROW_AMOUNTS;
     }
     false
 }
@@ -161,16 +161,16 @@ fn row_validation(bytes: &[u8], at: usize) -> Verdict
 fn rows_validation(bytes: &[u8]) -> Judged
     requires { ⌜ ShortNames (now bytes) ⌝ }
     ensures refusal { λ r. ⌜ OfSnapshot (now (bytes .entry)) (λ s. refusalIn r ≡ rowsValidation [] (s .rows)) ⌝ }
-    ensures short { λ r. ⌜ r .name .length ≤ 24 ⌝ }
+    ensures short { λ r. ⌜ r .name .length ≤ longestName ⌝ }
 {
-    let mut at = 18;
+    let mut at = rules::SNAPSHOT_HEADER;
     while at < bytes.len() {
         let verdict = row_validation(bytes, at);
         let Verdict::Done = verdict else {
             let name = name_at(bytes, at);
             return Judged { name, verdict };
         };
-        at = snapshot_reader::name_end(bytes, at) + 32;
+        at = snapshot_reader::name_end(bytes, at) + rules::ROW_AMOUNTS;
     }
     nameless(Verdict::Done)
 }
@@ -179,7 +179,7 @@ fn rows_validation(bytes: &[u8]) -> Judged
 pub fn validation(bytes: &[u8]) -> Judged
     requires { ⌜ ShortNames (now bytes) ⌝ }
     ensures refusal { λ r. ⌜ OfSnapshot (now (bytes .entry)) (λ s. refusalIn r ≡ validation s) ⌝ }
-    ensures short { λ r. ⌜ r .name .length ≤ 24 ⌝ }
+    ensures short { λ r. ⌜ r .name .length ≤ longestName ⌝ }
 {
     let active = snapshot_reader::active(bytes);
     if 0 < active {
@@ -197,7 +197,7 @@ pub fn validation(bytes: &[u8]) -> Judged
 pub fn status(bytes: &[u8]) -> Judged
     requires { ⌜ IsSnapshot (now bytes) ⌝ }
     ensures answer { λ r. ⌜ OfSnapshot (now (bytes .entry)) (λ s. judgedReply r ≡ status s) ⌝ }
-    ensures short { λ r. ⌜ r .name .length ≤ 24 ⌝ }
+    ensures short { λ r. ⌜ r .name .length ≤ longestName ⌝ }
 {
     if snapshot_reader::has_long_name(bytes) {
         return nameless(Verdict::NameTooLong);

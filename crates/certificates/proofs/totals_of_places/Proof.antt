@@ -5,6 +5,7 @@ use Prim.Native.Nat.{ℕ, _-_, _≤_, _<_}
 use native.Mathlib.Omega.{arith}
 use borrow.Author.Needs.{needs}
 use lib.IntN.{pos}
+use Rattle.rules.specs.RoomAndSoundLedger.{mostNames}
 use Rattle.records.specs.Records.{sizesOf}
 use Rattle.room.specs.Contents.{Sized}
 use Rattle.room.specs.Room.{IsRoom}
@@ -55,7 +56,7 @@ module _ (c : tie.In-loop Inv-loop μ-loop) where
   passing = omega (arith, in-use (c .before .before .before .before), c .loop-test .taken)
 
   -- there are at most 256 places
-  few : i ≤ 256
+  few : i ≤ mostNames
   few = let z = size start in omega (arith, z, passing)
 
 load-place-requires : tie.Need-load-place-requires Inv-loop μ-loop

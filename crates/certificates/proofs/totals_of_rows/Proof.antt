@@ -6,7 +6,8 @@ use Prim.Native.Nat.{ℕ, _+_, _-_, _≤_}
 use native.Mathlib.Omega.{arith}
 use borrow.Author.Needs.{needs}
 use lib.ListN.{length, length-append}
-use Rattle.rules.specs.SnapshotsMigrationCertificates.{Row, Snapshot, snapshotOfBytes}
+use Rattle.rules.specs.SnapshotsMigrationCertificates.{Row, Snapshot, snapshotOfBytes, mostRows}
+use Rattle.big_endian.specs.Layout.{rowAmounts}
 use Rattle.totals.specs.declared.Total.{Total}
 use Rattle.snapshot_reader.specs.Standing.{RowStands, Passed}
 use Rattle.snapshot_reader.proofs.Header.{header}
@@ -44,7 +45,7 @@ module _ (c : tie.In-loop Inv-loop μ-loop) where
   here = stands passed (c .loop-test .taken)
 
   -- there are at most 256 rows
-  few : length (passed .earlier) ≤ 256
+  few : length (passed .earlier) ≤ mostRows
   few = omega (arith, header bytes (entry .pre .snapshot) (entry .pre .is-read) .few, ap length (passed .rows), length-append (passed .earlier) (passed .later))
 
 plus-requires : tie.Need-plus-requires Inv-loop μ-loop
@@ -57,7 +58,7 @@ module _ (c : tie.After-read-row Inv-loop μ-loop) where
   ends : Ends (bytes (c .before)) (c .before .before .loop .at) (c .read-row .result .«name_end»)
   ends row later from = c .read-row .ensures row later from .ends-name
 
-  end-is : c .read-row .result .end ≡ c .read-row .result .«name_end» + 32
+  end-is : c .read-row .result .end ≡ c .read-row .result .«name_end» + rowAmounts
   end-is = let h = here (c .before) in c .read-row .ensures (h .row) (h .later) (h .from) .end
 
 loop-less : tie.Need-loop-less Inv-loop μ-loop

@@ -11,6 +11,7 @@ use lib.Signed.{ltZ}
 use Rattle.rules.specs.RoomAndSoundLedger.{M, Ledger}
 use Rattle.rules.specs.AccountRules.{natural}
 use Rattle.rules.specs.SnapshotsMigrationCertificates.{Snapshot, snapshotOfBytes}
+use Rattle.big_endian.specs.Layout.{rowAmounts}
 use Rattle.numbers.proofs.Bytes.{all-bytes}
 use Rattle.room.specs.Room.{IsRoom}
 use Rattle.snapshot_reader.specs.Standing.{Passed, ReadsRow}
@@ -77,7 +78,7 @@ is-seat c L s n = let r = read (c .before .before .before) L s n in c .seat-of .
 
 ends : (c : tie.After-read-row Inv-loop μ-loop) →
     let r = c .read-row .result in
-    (c .before .before .loop .at + 1 ≤ r .«name_end») × (r .end ≡ r .«name_end» + 32) × (r .end ≤ length (entry (c .before) .args .bytes .now))
+    (c .before .before .loop .at + 1 ≤ r .«name_end») × (r .end ≡ r .«name_end» + rowAmounts) × (r .end ≤ length (entry (c .before) .args .bytes .now))
 ends c = let r = read c (ledger (c .before)) (snapshot (c .before)) (row (c .before)) in (omega (arith, r .ends-name .size), r .end, omega (arith, r .end, r .ends-name .within))
 
 naturals : (c : tie.After-read-row Inv-loop μ-loop) →

@@ -10,6 +10,8 @@ use lib.ListN.{length}
 use Rattle.rules.specs.Lists.{any}
 use Rattle.rules.specs.AccountRules.{isTooLong}
 use Rattle.rules.specs.SnapshotsMigrationCertificates.{Snapshot, snapshotOfBytes, hasLongName}
+use Rattle.rules.specs.RoomAndSoundLedger.{longestName}
+use Rattle.big_endian.specs.Layout.{rowAmounts}
 use Rattle.snapshot_reader.specs.Standing.{RowStands, Passed}
 use Rattle.snapshot_reader.proofs.Rows.{first-row, start, at-row, stands, forward, advance, finished}
 use Rattle.snapshot_reader.proofs.Header.{header}
@@ -29,7 +31,7 @@ here : (c : tie.In-loop Inv-loop μ-loop) → RowStands (entry (c .before) .args
 here c = let is = entry (c .before) .pre in stands (c .before .loop .inv (is .snapshot) (is .is-read)) (c .loop-test .taken)
 
 further : (c : tie.After-name-end Inv-loop μ-loop) → let i = c .before .before .before in
-    (i .before .loop .at < c .name-end .result + 32) × (c .name-end .result + 32 ≤ length (entry (i .before) .args .bytes .now))
+    (i .before .loop .at < c .name-end .result + rowAmounts) × (c .name-end .result + rowAmounts ≤ length (entry (i .before) .args .bytes .now))
 further c = forward (here (c .before .before .before)) (c .name-end .ensures)
 
 loop-holds : tie.Need-loop-holds Inv-loop μ-loop
@@ -40,7 +42,7 @@ unfolding hasLongName any
 returns c s e =
     let i = c .before .before in
     let a = at-row (i .before .loop .inv s e) (i .loop-test .taken) in
-    let long : isTooLong (a .row .name) ≡ true = lt-ltb 24 (length (a .row .name)) (omega (arith, c .if1 .taken, first-row (a .from) .size)) in
+    let long : isTooLong (a .row .name) ≡ true = lt-ltb longestName (length (a .row .name)) (omega (arith, c .if1 .taken, first-row (a .from) .size)) in
     sym (a .so-far ∙ rw long)
 
 loop-again : tie.Need-loop-again Inv-loop μ-loop
@@ -48,7 +50,7 @@ unfolding hasLongName any
 loop-again c s e =
     let i = c .before .before .before in
     advance (i .before .loop .inv s e) (i .loop-test .taken) (c .name-end .ensures)
-    (λ a. let short : isTooLong (a .row .name) ≡ false = le-ltb 24 (length (a .row .name)) (omega (arith, c .before .if1 .left, first-row (a .from) .size)) in
+    (λ a. let short : isTooLong (a .row .name) ≡ false = le-ltb longestName (length (a .row .name)) (omega (arith, c .before .if1 .left, first-row (a .from) .size)) in
     a .so-far ∙ rw short)
 
 returns-2 : tie.Need-returns-2 Inv-loop μ-loop

@@ -6,6 +6,7 @@ use native.Mathlib.Omega.{arith}
 use borrow.Author.Needs.{needs}
 use lib.ListN.{length, drop}
 use Rattle.rules.specs.SnapshotsMigrationCertificates.{readRow, readRows, snapshotOfBytes}
+use Rattle.big_endian.specs.Layout.{snapshotHeader}
 use Rattle.snapshot_reader.specs.Standing.{isRead, RowEnds}
 use Rattle.snapshot_reader.specs.declared.RowEnd.{RowEnd}
 use Rattle.snapshot_reader.specs.declared.RowEnd.the-variants.{At, BadFrame}
@@ -34,8 +35,8 @@ returns-2 c = sym (refused (c .before .before .before .before .before .args .byt
 loop-holds : tie.Need-loop-holds Inv-loop μ-loop
 loop-holds c =
     let bytes = c .before .before .before .before .before .args .bytes .now in
-    let long : 18 ≤ length bytes = omega arith in
-    (long, by-rows bytes long (omega (arith, counted (c .before))) ∙ ap (λ n. rowsWhole (readRows n (drop 18 bytes))) (sym (counted (c .before))))
+    let long : snapshotHeader ≤ length bytes = omega arith in
+    (long, by-rows bytes long (omega (arith, counted (c .before))) ∙ ap (λ n. rowsWhole (readRows n (drop snapshotHeader bytes))) (sym (counted (c .before))))
 
 -- ── a row ──────────────────────────────────────────────────────────────────────────────────────
 

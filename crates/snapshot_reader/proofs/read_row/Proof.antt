@@ -6,13 +6,14 @@ use native.Mathlib.Omega.{arith}
 use borrow.Author.Needs.{needs}
 use lib.ListN.{length, take, drop}
 use Rattle.rules.specs.SnapshotsMigrationCertificates.{numberOf, signed}
+use Rattle.big_endian.specs.Layout.{rowAmounts}
 use Rattle.snapshot_reader.proofs.RowBytes.{amountAt}
 use Rattle.snapshot_reader.proofs.Rows.{amounts}
 use Rattle.snapshot_reader.proofs.read_row.Statement.{statement}
 use Rattle.snapshot_reader.proofs.read_row.Tie as tie
 
 -- the four amounts are there
-room : (c : tie.After-name-end) → c .name-end .result + 32 ≤ length (c .before .before .args .bytes .now)
+room : (c : tie.After-name-end) → c .name-end .result + rowAmounts ≤ length (c .before .before .args .bytes .now)
 room c = let s = c .before .before .pre in c .name-end .ensures (s .row) (s .later) (s .from) .within
 
 -- a lent part of 8 bytes
@@ -33,7 +34,7 @@ returns c row later h =
       initial = first .read-amount .ensures ∙ lent bytes end (end + 8) (omega arith) ∙ a .initial;
       remaining = second .read-amount2 .ensures ∙ lent bytes (end + 8) (end + 16) (omega arith) ∙ a .remaining;
       reserved = third .read-amount3 .ensures ∙ lent bytes (end + 16) (end + 24) (omega arith) ∙ a .reserved;
-      committed = c .read-amount4 .ensures ∙ lent bytes (end + 24) (end + 32) (omega arith) ∙ a .committed;
+      committed = c .read-amount4 .ensures ∙ lent bytes (end + 24) (end + rowAmounts) (omega arith) ∙ a .committed;
       end = refl;
     }
 

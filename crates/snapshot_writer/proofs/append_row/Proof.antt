@@ -4,6 +4,7 @@ use Prim.Native.Nat.{_+_, _-_}
 use native.Mathlib.Omega.{arith}
 use lib.ListN.{length}
 use Rattle.rules.specs.SnapshotsMigrationCertificates.{rowBytes}
+use Rattle.big_endian.specs.Layout.{shortestRow}
 use Rattle.records.proofs.Rows.{row-length}
 use Rattle.snapshot_writer.specs.Rows.{rowInPlace}
 use Rattle.snapshot_writer.proofs.Appending.{row-behind}
@@ -18,8 +19,8 @@ returns c before rs h =
     let output = s .args .output .now in
     let e = s .args .extent in
     let p = s .args .place in
-    let k = e .end + 33 + p .name .length - e .end in
-    let width : k ≡ 33 + p .name .length = omega arith in
+    let k = e .end + shortestRow + p .name .length - e .end in
+    let width : k ≡ shortestRow + p .name .length = omega arith in
     let row : _ ≡ rowBytes (rowInPlace p) = at-row .write-row .ensures in
     let size : length (at-row .write-row .last .0) ≡ k = at-row .write-row .kept .0 ∙ row-length k (e .end) output (omega (arith, s .pre .0)) in
     row-behind (rowInPlace p) k rs before output (at-row .write-row .last .0) e _ row size (omega (arith, s .pre .0)) (omega arith) (omega arith) h

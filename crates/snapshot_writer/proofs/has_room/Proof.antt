@@ -3,6 +3,7 @@ use mathlib.Core.Path.{_≡_, ap}
 use Prim.Native.Nat.{_≤_}
 use native.Mathlib.Omega.{arith}
 use borrow.Author.Needs.{needs}
+use Rattle.rules.specs.SnapshotsMigrationCertificates.{mostRows}
 use Rattle.records.specs.Records.{sizesOf}
 use Rattle.snapshot_writer.proofs.PlaceRows.{used-most, rows-most}
 use Rattle.snapshot_writer.proofs.Answering.{measured, plenty}
@@ -12,7 +13,7 @@ use Rattle.snapshot_writer.proofs.has_room.Tie as tie
 in-use : (c : tie.After-load-sizes) → c .load-sizes .result .used ≡ sizesOf (c .before .before .args .room .now) .used
 in-use c = ap (λ s. s .used) (c .load-sizes .ensures)
 
-few : (c : tie.After-load-sizes) → c .load-sizes .result .used ≤ 256
+few : (c : tie.After-load-sizes) → c .load-sizes .result .used ≤ mostRows
 few c = let s = c .before .before in omega (arith, in-use c, used-most (s .args .room .now) (s .pre .ledger) (s .pre .is-room))
 
 returns : tie.Need-returns

@@ -9,6 +9,7 @@ use borrow.Author.Tests.{not-true, not-false, ltb-false}
 use lib.ListN.{length}
 use Rattle.rules.specs.RoomAndSoundLedger.{Ledger}
 use Rattle.rules.specs.SnapshotsMigrationCertificates.{rowBytes, accountRows, snapshotBytes, snapshotOf, tooShortFor}
+use Rattle.big_endian.specs.Layout.{snapshotHeader}
 use Rattle.records.specs.declared.Head.{Head}
 use Rattle.heads.specs.Heads.{stampedHead}
 use Rattle.room.specs.Room.{headIn, IsRoom}
@@ -60,7 +61,7 @@ returns-2 c =
 enough : (c : tie.Else1) (L : Ledger) → IsRoom (room (entry (c .before))) L → tooShortFor (length (output (entry (c .before)))) (snapshotOf L) ≡ false
 enough c L r = not-true _ (sym (c .before .has-room .ensures L r) ∙ not-false _ (c .if1 .left))
 
-long : (c : tie.Else1) (L : Ledger) → IsRoom (room (entry (c .before))) L → 18 + length (flatMap rowBytes (accountRows (L .places))) ≤ length (output (entry (c .before)))
+long : (c : tie.Else1) (L : Ledger) → IsRoom (room (entry (c .before))) L → snapshotHeader + length (flatMap rowBytes (accountRows (L .places))) ≤ length (output (entry (c .before)))
 long c L r = omega (arith, ltb-false (length (output (entry (c .before)))) (length (snapshotBytes (snapshotOf L))) (enough c L r), snapshot-size (snapshotOf L))
 
 -- ── the snapshot written ───────────────────────────────────────────────────────────────────────

@@ -5,6 +5,7 @@ use Prim.Native.Nat.{ℕ}
 use native.Mathlib.Omega.{arith}
 use Rattle.rules.specs.SnapshotsMigrationCertificates.{bytesOf}
 use Rattle.rules.proofs.Numbers.{bytes-length}
+use Rattle.big_endian.specs.Layout.{rowAmounts}
 use Rattle.records.specs.Rows.{put, encoded}
 use Rattle.records.proofs.Rows.{put-all}
 use Rattle.records.proofs.Fields.{written-is}
@@ -29,7 +30,7 @@ returns c =
     let amounts : List ℕ = p .initial ∷ p .remaining ∷ p .reserved ∷ p .committed ∷ [] in
     (λ j. put 24 8 (put 16 8 (put 8 8 (put 0 8 part (initial j)) (remaining j)) (reserved j)) (committed j))
     ∙ written-is bytesOf bytes-length 0 widths amounts part refl (omega (arith, s .pre))
-    ∙ put-all 32 part (encoded bytesOf widths amounts) (s .pre)
+    ∙ put-all rowAmounts part (encoded bytesOf widths amounts) (s .pre)
     ∙ simp (append-assoc, append-nil)
 
 pub write-amounts-spec : {M : Type 1} → statement M

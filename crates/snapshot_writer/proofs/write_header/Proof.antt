@@ -4,6 +4,7 @@ use mathlib.Core.List.{[], _∷_, append-assoc, append-nil}
 use native.Mathlib.Omega.{arith}
 use Rattle.rules.specs.SnapshotsMigrationCertificates.{bytesOf}
 use Rattle.rules.proofs.Numbers.{bytes-length}
+use Rattle.big_endian.specs.Layout.{activeStart, countStart}
 use Rattle.records.specs.Rows.{put}
 use Rattle.records.proofs.Fields.{written-is}
 use borrow.Author.Needs.{needs}
@@ -20,7 +21,7 @@ returns c =
     let version : _ ≡ bytesOf 8 (s .args .version) = at-version .write8 .ensures in
     let active : _ ≡ bytesOf 8 (s .args .active) = at-active .write82 .ensures in
     let rows : _ ≡ bytesOf 2 (s .args .rows) = at-rows .write2 .ensures in
-    (λ j. put 16 2 (put 8 8 (put 0 8 output (version j)) (active j)) (rows j))
+    (λ j. put countStart 2 (put activeStart 8 (put 0 8 output (version j)) (active j)) (rows j))
     ∙ written-is bytesOf bytes-length 0 (8 ∷ 8 ∷ 2 ∷ []) (s .args .version ∷ s .args .active ∷ s .args .rows ∷ []) output refl (omega (arith, s .pre))
     ∙ simp (append-assoc, append-nil)
 

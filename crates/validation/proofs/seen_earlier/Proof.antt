@@ -9,6 +9,7 @@ use lib.ListN.{length}
 use Rattle.rules.specs.Lists.{any}
 use Rattle.rules.specs.RoomAndSoundLedger.{same}
 use Rattle.rules.specs.SnapshotsMigrationCertificates.{Row}
+use Rattle.big_endian.specs.Layout.{rowAmounts}
 use Rattle.snapshot_reader.specs.Standing.{RowsFrom, RowStands, RowOf, Passed, EndsName}
 use Rattle.snapshot_reader.proofs.Header.{header}
 use Rattle.snapshot_reader.proofs.Rows.{AtRow, start, at-row, forward, advance}
@@ -90,7 +91,7 @@ returns-2 c here =
     let all : p .earlier ≡ here .earlier = towards-end (here .from) (p .from) (c .loop-test .left) (p .so-far .0) in
     sym (seen-earlier (here .row .name) (here .earlier) ∙ ap (any (isNamed (here .row .name))) (sym all) ∙ p .so-far .1)
 
-further : (c : tie.After-name-end2 Inv-loop μ-loop) → let l = c .before .before in (l .loop .earlier < c .name-end2 .result + 32) × (c .name-end2 .result + 32 ≤ length (bytes (c .before)))
+further : (c : tie.After-name-end2 Inv-loop μ-loop) → let l = c .before .before in (l .loop .earlier < c .name-end2 .result + rowAmounts) × (c .name-end2 .result + rowAmounts ≤ length (bytes (c .before)))
 further c = forward (row-stands (c .before)) (c .name-end2 .ensures)
 
 pub seen-earlier-spec : {M : Type 1} → statement M
