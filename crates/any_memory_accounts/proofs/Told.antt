@@ -6,7 +6,7 @@ use Prim.Native.Nat.{ℕ}
 use borrow.Author.Tests.{not-true, not-false}
 use Rattle.rules.specs.RoomAndSoundLedger.{Ledger}
 use Rattle.rules.specs.AnswerNumbers.{Reply, UnsoundLedger, replyOf}
-use Rattle.room.specs.Room.{IsRoom, SoundRoom}
+use Rattle.room.specs.Room.{SoundRoom, OfRoom}
 use Rattle.soundness.specs.Facts.{Decides}
 use Rattle.any_memory_accounts.specs.Tells.{Tells}
 
@@ -14,5 +14,5 @@ module _ (f : Ledger → Reply) (memory : List ℕ) (r : Bool) (decides : Decide
   pub untold : not r ≡ true → Tells f memory (replyOf UnsoundLedger)
   untold e = record { sound-room = λ L room. absurd (decides .fails (not-true r e) (record { ledger = L; is-room = room })); other = λ no-room. refl }
 
-  pub told : not r ≡ false → (reply : Reply) → ((L : Ledger) → IsRoom memory L → reply ≡ f L) → Tells f memory reply
+  pub told : not r ≡ false → (reply : Reply) → OfRoom memory (λ L. reply ≡ f L) → Tells f memory reply
   told e reply reads = record { sound-room = reads; other = λ no-room. absurd (let s = decides .holds (not-false r e) in no-room (s .ledger) (s .is-room)) }

@@ -1,10 +1,10 @@
 -- What a read promises of any lent memory, which it cannot change: the read of the rules where it is the room of a sound ledger, else 24.
 use mathlib.Core.Path.{_≡_}
-use mathlib.Core.List.{List, [], _∷_}
+use mathlib.Core.List.{List}
 use Prim.Native.Nat.{ℕ}
 use Rattle.rules.specs.RoomAndSoundLedger.{Ledger}
 use Rattle.rules.specs.AnswerNumbers.{Reply, UnsoundLedger, replyOf}
-use Rattle.room.specs.Room.{IsRoom}
+use Rattle.room.specs.Room.{OfRoom}
 use Rattle.reads.specs.Answers.{amountReply, countReply, versionReply}
 use Rattle.any_memory_accounts.specs.declared.Counted.{Counted}
 use Rattle.any_memory_accounts.specs.declared.Counted.the-variants as counted
@@ -14,8 +14,8 @@ use Rattle.any_memory_accounts.specs.declared.Since.{Since}
 use Rattle.any_memory_accounts.specs.declared.Since.the-variants as since
 
 pub record Tells (f : Ledger → Reply) (memory : List ℕ) (r : Reply) : Type 0 where
-  pub sound-room : (L : Ledger) → IsRoom memory L → r ≡ f L
-  pub other : ((L : Ledger) → IsRoom memory L → ⊥) → r ≡ replyOf UnsoundLedger
+  pub sound-room : OfRoom memory (λ L. r ≡ f L)
+  pub other : OfRoom memory (λ L. ⊥) → r ≡ replyOf UnsoundLedger
 
 abbrev pub countedReply : Counted → Reply
 countedReply (counted.Count n) = countReply n

@@ -2,7 +2,7 @@
 use mathlib.Core.Path.{_≡_, refl, sym, ap, subst, _∙_}
 use mathlib.Core.Logic.{inl, inr}
 use mathlib.Core.List.{List, []}
-use mathlib.Core.Option.{Option, none, some}
+use mathlib.Core.Option.{some}
 use Prim.Native.Nat.{ℕ}
 use Rattle.rules.specs.RoomAndSoundLedger.{Ledger}
 use Rattle.rules.specs.AnswerNumbers.{NameTooLong, Reply, Outcome}
@@ -14,7 +14,8 @@ use Rattle.validation.specs.declared.Verdict.the-variants as verdict
 use Rattle.validation.specs.declared.Judged.{Judged}
 use Rattle.validation.specs.Judgement.{refusalOf, nameless, judgedReply}
 use Rattle.validation.proofs.Deciding.{NotDone, refuses, passes-on}
-use Rattle.room.specs.Room.{IsRoom, SoundRoom, Performed, Answers}
+use Rattle.room.specs.Room.{SoundRoom, Answers}
+use Rattle.restoring.specs.Forms.{Restores}
 use Rattle.any_memory_snapshots.specs.Supplied.{AnswersSnapshot, SoundOr24, FirstCheck}
 
 not-done : (v : Verdict) → NotDone v → v ≡ verdict.Done → ⊥
@@ -48,8 +49,7 @@ module _ {bytes before : List ℕ} {v : Verdict} (checked : FirstCheck bytes bef
     known = (sound-room (checked .read supplied), supplied)
 
     pub answered : (f : Ledger → Snapshot → Outcome) {reply : Reply} {after : List ℕ}
-        → ((s : Snapshot) → snapshotOfBytes bytes ≡ some s → (L : Ledger) → IsRoom before L → Performed (λ K. f K s) L reply after)
-        → AnswersSnapshot f (snapshotOfBytes bytes) before reply after
+        → Restores f bytes before reply after → AnswersSnapshot f (snapshotOfBytes bytes) before reply after
     answered f {reply} {after} performs =
         let answers : Answers (λ L. f L (supplied .snapshot)) before reply after = record {
           sound-room = performs (supplied .snapshot) (supplied .is-read);

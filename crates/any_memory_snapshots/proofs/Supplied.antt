@@ -3,13 +3,13 @@ use mathlib.Core.Path.{_≡_, refl, sym, ap, _∙_}
 use mathlib.Core.Logic.{_≢_}
 use mathlib.Core.Bool.{Bool, true, false, not}
 use mathlib.Core.List.{List}
-use mathlib.Core.Option.{none, some}
+use mathlib.Core.Option.{none}
 use Prim.Native.Nat.{ℕ}
 use borrow.Author.Tests.{not-true, not-false}
 use Rattle.rules.specs.AnswerNumbers.{Reply, BadFrame, replyOf}
 use Rattle.rules.specs.SnapshotsMigrationCertificates.{Snapshot, snapshotOfBytes}
 use Rattle.rules.proofs.Tests.{by-option, true-false, none-some}
-use Rattle.snapshot_reader.specs.Standing.{isRead, IsSnapshot}
+use Rattle.snapshot_reader.specs.Standing.{isRead, IsSnapshot, OfSnapshot}
 use Rattle.any_memory_snapshots.specs.Supplied.{onSupplied}
 
 module _ (bytes : List ℕ) (r : Bool) (asked : r ≡ isRead (snapshotOfBytes bytes)) where
@@ -28,5 +28,5 @@ module _ (bytes : List ℕ) (r : Bool) (asked : r ≡ isRead (snapshotOfBytes by
   bad-judged f reply e is = by-option (λ o. reply ≡ onSupplied f o) (snapshotOfBytes bytes)
       (λ _. is) (λ s read. absurd (no-snapshot e (record { snapshot = s; is-read = read })))
 
-  pub judged : (f : Snapshot → Reply) (reply : Reply) → not r ≡ false → ((s : Snapshot) → snapshotOfBytes bytes ≡ some s → reply ≡ f s) → reply ≡ onSupplied f (snapshotOfBytes bytes)
+  pub judged : (f : Snapshot → Reply) (reply : Reply) → not r ≡ false → OfSnapshot bytes (λ s. reply ≡ f s) → reply ≡ onSupplied f (snapshotOfBytes bytes)
   judged f reply e is = let supplied = is-snapshot e in is (supplied .snapshot) (supplied .is-read) ∙ ap (onSupplied f) (sym (supplied .is-read))

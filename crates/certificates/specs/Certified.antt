@@ -47,7 +47,8 @@ certifiedReply certified.UnsoundLedger = replyOf UnsoundLedger
 
 -- "version, accounts, active, both totals, 1"
 abbrev pub proofReply : Proof → Reply
-proofReply p = done (Version (p .version) ∷ Count (p .accounts) ∷ Count (p .active) ∷ Amount (p .«initial_total» .0) ∷ Amount (p .«committed_total» .0) ∷ YesOrNo true ∷ [])
+proofReply p =
+    done (Version (p .version) ∷ Count (p .accounts) ∷ Count (p .active) ∷ Amount (p .«initial_total» .0) ∷ Amount (p .«committed_total» .0) ∷ YesOrNo true ∷ [])
 
 abbrev pub provedReply : Proved → Reply
 provedReply (proved.Proof p) = proofReply p

@@ -140,7 +140,9 @@ fn certify(
     totals: Totals,
     since: Microcents,
 ) -> Certificate
-    ensures { λ r. ⌜ ((s : Snapshot) → version ≡ s .version → rows ≡ length (s .rows) → active ≡ s .active → balanced ≡ isNone (conservation (s .rows)) → totals ≡ totalsOf (s .rows) → certificateReply r ≡ certificate s (since .0)) ⌝ }
+    ensures { λ r. ⌜
+        ((s : Snapshot) → version ≡ s .version → rows ≡ length (s .rows) → active ≡ s .active → balanced ≡ isNone (conservation (s .rows))
+        → totals ≡ totalsOf (s .rows) → certificateReply r ≡ certificate s (since .0)) ⌝ }
 {
     let Totals::Fit(initial_total, committed_total) = totals else {
         return Certificate {

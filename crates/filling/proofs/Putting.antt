@@ -2,33 +2,31 @@
 use mathlib.Core.Path.{_≡_, refl, sym, _∙_, ap, subst}
 use mathlib.Core.Bool.{true, false}
 use mathlib.Core.List.{List, [], _∷_, _++_}
-use mathlib.Core.Option.{some}
 use Prim.Native.Nat.{ℕ, _+_, _-_, _≤_, min}
 use native.Mathlib.Omega.{arith}
 use borrow.Author.Tests.{lt-ltb, le-ltb}
 use lib.IntN.{ℤ, pos}
 use lib.ListN.{length, take, drop}
 use lib.Seq.{append-snoc}
-use lib.Signed.{ltZ}
 use Rattle.rules.specs.Lists.{sum, All}
 use Rattle.rules.specs.RoomAndSoundLedger.{M, Name, IsByte, Ledger, isVacant, withPlaces, committedTotal, fresh, longestName}
 use Rattle.rules.specs.AccountRules.{natural, seated, hasRoom}
-use Rattle.rules.specs.SnapshotsMigrationCertificates.{Row, Snapshot, snapshotOfBytes, hasLongName, validation, restoredSeat, restoredPlaces}
+use Rattle.rules.specs.SnapshotsMigrationCertificates.{Row, Snapshot, hasLongName, isNegative, validation, restoredSeat, restoredPlaces}
 use Rattle.rules.proofs.Lists.{none-any}
 use Rattle.rules.proofs.Checks.{both-pass, check-passes, validation-passes}
 use Rattle.rules.proofs.SnapshotBytes.{snapshot-only}
 use Rattle.rules.proofs.SnapshotSoundness.{restored-account}
 use Rattle.moves.specs.Moves.{meaning, keptSeat, SeatSound}
 use Rattle.moves.specs.declared.Seat.{Seat}
-use Rattle.room.specs.Room.{contentsIn, IsRoom, SoundRoom}
+use Rattle.room.specs.Room.{contentsIn, IsRoom, SoundRoom, OfRoom}
 use Rattle.room.proofs.Decoding.{one-ledger}
-use Rattle.snapshot_reader.specs.Standing.{EndsName}
-use Rattle.filling.specs.Filling.{Takes, Holds, seatOfRow, PutsRows}
+use Rattle.snapshot_reader.specs.Standing.{OfSnapshot, EndsName}
+use Rattle.filling.specs.Filling.{Takes, Holds, NotNegative, seatOfRow, PutsRows}
 use Rattle.filling.proofs.Placing.{Pass, restored-more, not-held, capped-total, rows-sound, row-fits, row-short, row-restorable, row-unseen, room-left}
 
 -- ── what a ledger that takes a snapshot says of its rows ───────────────────────────────────────
 
-pub passes : (t : ℕ) (bs : List ℕ) → All IsByte bs → Takes t bs → (s : Snapshot) → snapshotOfBytes bs ≡ some s → Pass t (s .rows)
+pub passes : (t : ℕ) (bs : List ℕ) → All IsByte bs → Takes t bs → OfSnapshot bs (λ s. Pass t (s .rows))
 unfolding hasLongName validation
 passes t bs bytes takes s e =
     let same : takes .snapshot ≡ s = cc in
@@ -53,14 +51,14 @@ pub none-put : (room : List ℕ) (L : Ledger) → IsRoom room L → L ≡ fresh 
 unfolding fresh restoredPlaces committedTotal sum
 none-put room L is-room e rs pass = record { puts = record { is-room = subst (IsRoom room) e is-room; total = omega arith }; pass = pass }
 
-not-below : (z : ℤ) → z ≡ pos (natural z) → ltZ z (pos 0) ≡ false
-not-below z e = ap (λ y. ltZ y (pos 0)) e ∙ le-ltb (natural z) 0 (omega arith)
+not-below : (z : ℤ) → z ≡ pos (natural z) → NotNegative z
+not-below z e = ap isNegative e ∙ le-ltb (natural z) 0 (omega arith)
 
 -- ── the next row ───────────────────────────────────────────────────────────────────────────────
 
 module _ {t r : ℕ} {room : List ℕ} {baseline : ℕ} {earlier : List Row} {row : Row} {later : List Row} (put : Put t r room baseline earlier (row ∷ later)) where
   -- its amounts are natural numbers
-  pub row-natural : (ltZ (row .initial) (pos 0) ≡ false) × (ltZ (row .remaining) (pos 0) ≡ false) × (ltZ (row .committed) (pos 0) ≡ false)
+  pub row-natural : NotNegative (row .initial) × NotNegative (row .remaining) × NotNegative (row .committed)
   row-natural =
       let h = row-restorable t earlier row later (put .pass) in
       (not-below (row .initial) (h .initial), not-below (row .remaining) (h .remaining), not-below (row .committed) (h .committed))
@@ -77,7 +75,7 @@ module _ {t r : ℕ} {room : List ℕ} {baseline : ℕ} {earlier : List Row} {ro
 
   module _ {a : Name} (is-name : a ≡ row .name) {seat : Seat} (is-seat : seat ≡ seatOfRow row) where
     -- what putting it asks
-    pub row-asks : SoundRoom room × (length a ≤ longestName) × SeatSound seat × (isVacant (meaning seat) ≡ false) × ((L : Ledger) → IsRoom room L → hasRoom a (meaning seat) L ≡ true)
+    pub row-asks : SoundRoom room × (length a ≤ longestName) × SeatSound seat × (isVacant (meaning seat) ≡ false) × (OfRoom room (λ L. hasRoom a (meaning seat) L ≡ true))
     row-asks =
         let is-room = put .puts .is-room in (
           record { ledger = ledgerWith t r earlier; is-room = is-room },
@@ -88,8 +86,8 @@ module _ {t r : ℕ} {room : List ℕ} {baseline : ℕ} {earlier : List Row} {ro
         )
 
     -- and what it makes of the room and of the total
-    pub row-put : (after : List ℕ) (total : ℕ) → ((L : Ledger) → IsRoom room L → Holds (withPlaces L (seated a (meaning seat) (L .places))) room after) → total ≡ min (baseline + natural (row .committed)) M
-        → Put t r after total (earlier ++ row ∷ []) later
+    pub row-put : (after : List ℕ) (total : ℕ) → OfRoom room (λ L. Holds (withPlaces L (seated a (meaning seat) (L .places))) room after)
+        → total ≡ min (baseline + natural (row .committed)) M → Put t r after total (earlier ++ row ∷ []) later
     unfolding seated fresh
     row-put after total holds e =
         let is-room = put .puts .is-room in

@@ -10,7 +10,7 @@ use Rattle.records.specs.Records.{sizesOf}
 use Rattle.records.specs.declared.Head.{Head}
 use Rattle.records.specs.declared.Sizes.{Sizes}
 use Rattle.room.specs.Contents.{contentsOf, withHead}
-use Rattle.room.specs.Room.{contentsIn, IsRoom}
+use Rattle.room.specs.Room.{contentsIn, IsRoom, OfRoom}
 use Rattle.room.proofs.Decoding.{one-ledger}
 use Rattle.room.proofs.SoundRoom.{sizes-are}
 use Rattle.soundness.specs.Making.{Makes}
@@ -29,7 +29,7 @@ made-anew xs ys L room s e m makes =
     record { size = done .size ∙ room .size; holds = done .holds; sound = fresh-sound (L .T) (L .R) (known .names-in-range) (known .reservations-in-range) }
 
 -- a fresh ledger is the one ledger of its room
-pub empty-takes : (ys bs : List ℕ) (t r : ℕ) → IsRoom ys (fresh t r) → Takes t bs → (L : Ledger) → IsRoom ys L → (L ≡ fresh (L .T) (L .R)) × Takes (L .T) bs
+pub empty-takes : (ys bs : List ℕ) (t r : ℕ) → IsRoom ys (fresh t r) → Takes t bs → OfRoom ys (λ L. (L ≡ fresh (L .T) (L .R)) × Takes (L .T) bs)
 unfolding fresh
 empty-takes ys bs t r room takes L is-room = subst (λ (L : Ledger). (L ≡ fresh (L .T) (L .R)) × Takes (L .T) bs) (one-ledger ys (fresh t r) L room is-room) (refl, takes)
 

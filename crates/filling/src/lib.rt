@@ -7,19 +7,17 @@ use snapshot_reader::StandingRow;
 ghost use mathlib.Core.Path.{_≡_};
 ghost use mathlib.Core.Bool.{true, false};
 ghost use Prim.Native.Nat.{_+_, _≤_, min};
-ghost use lib.IntN.{pos};
-ghost use lib.Signed.{ltZ};
 ghost use lib.ListN.{length};
 ghost use Rattle.rules.specs.RoomAndSoundLedger.{M, isVacant, withPlaces, fresh, longestName};
 ghost use Rattle.rules.specs.AccountRules.{natural, seated, hasRoom};
 ghost use Rattle.rules.specs.SnapshotsMigrationCertificates.{Row, restored};
 ghost use Rattle.moves.specs.Moves.{meaning, SeatSound};
 ghost use Rattle.room.specs.Room.{SoundRoom, OfRoom};
-ghost use Rattle.filling.specs.Filling.{Takes, Holds, seatOfRow, PutsRows};
+ghost use Rattle.filling.specs.Filling.{Takes, Holds, NotNegative, NoneNegative, seatOfRow, PutsRows};
 ghost use Rattle.snapshot_reader.specs.Standing.{OfSnapshot};
 
 fn natural(amount: Microcents) -> u64
-    requires { ⌜ ltZ (amount .0) (pos 0) ≡ false ⌝ }
+    requires { ⌜ NotNegative (amount .0) ⌝ }
     ensures { λ r. ⌜ r ≡ natural (amount .0) ⌝ }
 {
     let x = amount.0;
@@ -38,8 +36,10 @@ fn capped(total: u64, more: u64) -> u64
 }
 
 fn seat_of(row: StandingRow) -> Seat
-    requires { ⌜ (ltZ (row .initial .0) (pos 0) ≡ false) × (ltZ (row .remaining .0) (pos 0) ≡ false) × (ltZ (row .committed .0) (pos 0) ≡ false) ⌝ }
-    ensures { λ r. ⌜ ((rules : Row) → row .initial .0 ≡ rules .initial → row .remaining .0 ≡ rules .remaining → row .committed .0 ≡ rules .committed → r ≡ seatOfRow rules) ⌝ }
+    requires { ⌜ NoneNegative row ⌝ }
+    ensures { λ r. ⌜
+        ((rules : Row) → row .initial .0 ≡ rules .initial → row .remaining .0 ≡ rules .remaining → row .committed .0 ≡ rules .committed
+        → r ≡ seatOfRow rules) ⌝ }
 {
     Seat {
         initial: natural(row.initial),
@@ -52,8 +52,12 @@ fn seat_of(row: StandingRow) -> Seat
 }
 
 fn put_row(room: &mut [u8], part: &[u8], seat: Seat)
-    requires { ⌜ SoundRoom (now room) × (length (now part) ≤ longestName) × SeatSound seat × (isVacant (meaning seat) ≡ false) × (OfRoom (now room) (λ L. hasRoom (now part) (meaning seat) L ≡ true)) ⌝ }
-    ensures { λ _. ⌜ OfRoom (now (room .entry)) (λ L. Holds (withPlaces L (seated (now (part .entry)) (meaning seat) (L .places))) (now (room .entry)) (now (room .exit))) ⌝ }
+    requires { ⌜
+        SoundRoom (now room) × (length (now part) ≤ longestName) × SeatSound seat × (isVacant (meaning seat) ≡ false)
+        × (OfRoom (now room) (λ L. hasRoom (now part) (meaning seat) L ≡ true)) ⌝ }
+    ensures { λ _. ⌜
+        OfRoom (now (room .entry))
+        (λ L. Holds (withPlaces L (seated (now (part .entry)) (meaning seat) (L .places))) (now (room .entry)) (now (room .exit))) ⌝ }
 {
     let found = lookup::find(room, part);
     seats::write_seat(room, part, found, seat);

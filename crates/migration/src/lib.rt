@@ -6,10 +6,10 @@ ghost use mathlib.Core.List.{_++_};
 ghost use mathlib.Core.Option.{none};
 ghost use Prim.Native.Nat.{_≤_};
 ghost use lib.ListN.{length, drop};
-ghost use Rattle.rules.specs.RoomAndSoundLedger.{M, longestName};
+ghost use Rattle.rules.specs.RoomAndSoundLedger.{M};
 ghost use Rattle.rules.specs.SnapshotsMigrationCertificates.{bytesOf, replyOr, migrate, outputAfter};
 ghost use Rattle.snapshot_reader.specs.Standing.{IsSnapshot, OfSnapshot};
-ghost use Rattle.validation.specs.Judgement.{refusalIn};
+ghost use Rattle.validation.specs.Judgement.{refusalIn, HasShortName};
 ghost use Rattle.migration.specs.Migrated.{migratedTo, migratedReply};
 
 // 19; "bit 63 set gives 16; fence 0 or above M gives 17; validation"; 22 last.
@@ -17,7 +17,7 @@ fn refusal(bytes: &[u8], fence: u64, size: usize) -> Judged
     requires { ⌜ IsSnapshot (now bytes) ⌝ }
     ensures answer { λ r. ⌜ OfSnapshot (now (bytes .entry)) (λ s. replyOr (refusalIn r) (migratedTo fence s) ≡ migrate size fence s) ⌝ }
     ensures room { λ r. ⌜ (refusalIn r ≡ none → (fence ≤ M) × (length (now (bytes .entry)) ≤ size)) ⌝ }
-    ensures short { λ r. ⌜ r .name .length ≤ longestName ⌝ }
+    ensures short { λ r. ⌜ HasShortName r ⌝ }
 {
     if snapshot_reader::has_long_name(bytes) {
         return validation::nameless(Verdict::NameTooLong);
@@ -57,9 +57,11 @@ fn write_migrated(bytes: &[u8], version: u64, output: &mut [u8])
 
 pub fn migrate(bytes: &[u8], fence: u64, output: &mut [u8]) -> Judged
     requires { ⌜ IsSnapshot (now bytes) ⌝ }
-    ensures answer { λ r. ⌜ OfSnapshot (now (bytes .entry)) (λ s. migratedReply (length (now (bytes .entry))) (now (output .exit)) r ≡ migrate (length (now (output .entry))) fence s) ⌝ }
+    ensures answer { λ r. ⌜
+        OfSnapshot (now (bytes .entry))
+        (λ s. migratedReply (length (now (bytes .entry))) (now (output .exit)) r ≡ migrate (length (now (output .entry))) fence s) ⌝ }
     ensures output { λ r. ⌜ now (output .exit) ≡ outputAfter (migratedReply (length (now (bytes .entry))) (now (output .exit)) r) (now (output .entry)) ⌝ }
-    ensures short { λ r. ⌜ r .name .length ≤ longestName ⌝ }
+    ensures short { λ r. ⌜ HasShortName r ⌝ }
 {
     let judged = refusal(bytes, fence, output.len());
     let verdict = judged.verdict;

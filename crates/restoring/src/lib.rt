@@ -3,13 +3,11 @@ use validation::Judged;
 use validation::Verdict;
 ghost use mathlib.Core.Path.{_≡_};
 ghost use mathlib.Core.List.{[]};
-ghost use Prim.Native.Nat.{_≤_};
 ghost use Rattle.rules.specs.SnapshotsMigrationCertificates.{restoreVersion, recoveryVersion, restoreRefusal, restore, recoveryRestore};
-ghost use Rattle.rules.specs.RoomAndSoundLedger.{longestName};
 ghost use Rattle.snapshot_reader.specs.Standing.{IsSnapshot, OfSnapshot};
-ghost use Rattle.validation.specs.Judgement.{refusalOf, refusalIn, judgedReply};
-ghost use Rattle.room.specs.Room.{SoundRoom, Performs};
-ghost use Rattle.restoring.specs.Forms.{restoreBy, Keeps};
+ghost use Rattle.validation.specs.Judgement.{refusalOf, refusalIn, judgedReply, HasShortName};
+ghost use Rattle.room.specs.Room.{SoundRoom};
+ghost use Rattle.restoring.specs.Forms.{restoreBy, Restores, Keeps};
 
 // "version without bit 63 or with low bits 0 gives 13, empty name, field 4, value = version or M if larger"
 fn restore_version(version: u64) -> Verdict
@@ -42,7 +40,7 @@ fn recovery_version(version: u64) -> Verdict
 fn refusal(names: u64, bytes: &[u8], of_version: Verdict) -> Judged
     requires { ⌜ IsSnapshot (now bytes) ⌝ }
     ensures refusal { λ r. ⌜ OfSnapshot (now (bytes .entry)) (λ s. refusalIn r ≡ restoreRefusal (refusalOf [] «of_version») names s) ⌝ }
-    ensures short { λ r. ⌜ r .name .length ≤ longestName ⌝ }
+    ensures short { λ r. ⌜ HasShortName r ⌝ }
 {
     if snapshot_reader::has_long_name(bytes) {
         return validation::nameless(Verdict::NameTooLong);
@@ -64,8 +62,8 @@ fn refusal(names: u64, bytes: &[u8], of_version: Verdict) -> Judged
 // Both forms, which differ in what they say of the version alone.
 fn restore_by(room: &mut [u8], bytes: &[u8], of_version: Verdict) -> Judged
     requires { ⌜ SoundRoom (now room) × IsSnapshot (now bytes) × Keeps (now bytes) (refusalOf [] «of_version») ⌝ }
-    ensures performs { λ r. ⌜ OfSnapshot (now (bytes .entry)) (λ s. Performs (λ K. restoreBy (refusalOf [] «of_version») K s) (now (room .entry)) (judgedReply r) (now (room .exit))) ⌝ }
-    ensures short { λ r. ⌜ r .name .length ≤ longestName ⌝ }
+    ensures performs { λ r. ⌜ Restores (restoreBy (refusalOf [] «of_version»)) (now (bytes .entry)) (now (room .entry)) (judgedReply r) (now (room .exit)) ⌝ }
+    ensures short { λ r. ⌜ HasShortName r ⌝ }
 {
     let sizes = records::load_sizes(room);
     let judged = refusal(sizes.names, bytes, of_version);
@@ -79,8 +77,8 @@ fn restore_by(room: &mut [u8], bytes: &[u8], of_version: Verdict) -> Judged
 
 pub fn restore(room: &mut [u8], bytes: &[u8]) -> Judged
     requires { ⌜ SoundRoom (now room) × IsSnapshot (now bytes) ⌝ }
-    ensures performs { λ r. ⌜ OfSnapshot (now (bytes .entry)) (λ s. Performs (λ K. restore K s) (now (room .entry)) (judgedReply r) (now (room .exit))) ⌝ }
-    ensures short { λ r. ⌜ r .name .length ≤ longestName ⌝ }
+    ensures performs { λ r. ⌜ Restores restore (now (bytes .entry)) (now (room .entry)) (judgedReply r) (now (room .exit)) ⌝ }
+    ensures short { λ r. ⌜ HasShortName r ⌝ }
 {
     restore_by(
         room,
@@ -91,8 +89,8 @@ pub fn restore(room: &mut [u8], bytes: &[u8]) -> Judged
 
 pub fn recovery_restore(room: &mut [u8], bytes: &[u8]) -> Judged
     requires { ⌜ SoundRoom (now room) × IsSnapshot (now bytes) ⌝ }
-    ensures performs { λ r. ⌜ OfSnapshot (now (bytes .entry)) (λ s. Performs (λ K. recoveryRestore K s) (now (room .entry)) (judgedReply r) (now (room .exit))) ⌝ }
-    ensures short { λ r. ⌜ r .name .length ≤ longestName ⌝ }
+    ensures performs { λ r. ⌜ Restores recoveryRestore (now (bytes .entry)) (now (room .entry)) (judgedReply r) (now (room .exit)) ⌝ }
+    ensures short { λ r. ⌜ HasShortName r ⌝ }
 {
     restore_by(
         room,

@@ -11,7 +11,7 @@ use Rattle.rules.specs.SnapshotsMigrationCertificates.{Row, Snapshot, Reading, 
 use Rattle.rules.proofs.Tests.{by-bool, by-test, none-some}
 use Rattle.rules.proofs.Reading.{after}
 use Rattle.big_endian.specs.Layout.{activeStart, countStart, snapshotHeader}
-use Rattle.snapshot_reader.specs.Standing.{IsSnapshot, RowsFrom}
+use Rattle.snapshot_reader.specs.Standing.{IsSnapshot, OfSnapshot, RowsFrom}
 use Rattle.snapshot_reader.proofs.RowBytes.{goes-on, gives-none, number-takes}
 
 -- ── the head by its places ─────────────────────────────────────────────────────────────────────
@@ -96,7 +96,7 @@ module _ (bs : List ℕ) where
       let rows : RowsFrom bs snapshotHeader (r .value) = record { within = long; read = ap (λ n. readRows n (drop snapshotHeader bs)) count ∙ whole-read } in
       record { long = long; version = refl; active = refl; count = count; few = omega arith; from = rows }
 
-  pub header : (s : Snapshot) → snapshotOfBytes bs ≡ some s → Header bs s
+  pub header : OfSnapshot bs (Header bs)
   unfolding snapshotOfBytes
   header s e = by-bool (λ b. ltb (length bs) snapshotHeader ≡ b → Header bs s) (ltb (length bs) snapshotHeader)
       (λ _ t. let l : length bs < snapshotHeader = ltb-true (length bs) snapshotHeader t in

@@ -17,7 +17,7 @@ use Rattle.rules.proofs.Reading.{after}
 use Rattle.rules.proofs.SnapshotBytes.{rowLength}
 use Rattle.rules.specs.RoomAndSoundLedger.{longestName}
 use Rattle.big_endian.specs.Layout.{rowAmounts, shortestRow}
-use Rattle.snapshot_reader.specs.Standing.{RowsFrom, RowStands, ShortNames, RowOf, Passed, EndsName}
+use Rattle.snapshot_reader.specs.Standing.{RowsFrom, RowStands, OfRow, ShortNames, RowOf, Passed, EndsName}
 use Rattle.snapshot_reader.proofs.RowBytes.{amountAt, rowAtFront, row-short, row-long}
 
 -- ── the row that starts at a byte ──────────────────────────────────────────────────────────────
@@ -165,7 +165,7 @@ pub record AtRow (bs : List ℕ) (all : List Row) (at : ℕ) (So-far : (earlier 
 
 -- what the function that finds the end of a name answers, whatever row stands here
 abbrev pub Ends : List ℕ → ℕ → ℕ → Type 0
-Ends bs at end = (row : Row) (later : List Row) → RowsFrom bs at (row ∷ later) → EndsName bs at row later end
+Ends bs at end = OfRow bs at (λ row later. EndsName bs at row later end)
 
 module _ {bs : List ℕ} {all : List Row} {at : ℕ} {So-far : (earlier later : List Row) → Type 0} where
   pub start : RowsFrom bs at all → So-far [] all → Passed bs all at So-far
@@ -201,7 +201,10 @@ module _ {bs : List ℕ} {all : List Row} {at : ℕ} {So-far : (earlier later : 
       (p .rows) (p .so-far)
 
 -- the next row starts further on, and not past the end
-pub forward : {bs : List ℕ} {at end : ℕ} → RowStands bs at → Ends bs at end → (at < end + rowAmounts) × (end + rowAmounts ≤ length bs)
+abbrev pub Further : (bs : List ℕ) (at end : ℕ) → Type 0
+Further bs at end = (at < end + rowAmounts) × (end + rowAmounts ≤ length bs)
+
+pub forward : {bs : List ℕ} {at end : ℕ} → RowStands bs at → Ends bs at end → Further bs at end
 forward s ends = let e = ends (s .row) (s .later) (s .from) in (omega (arith, e .size), e .within)
 
 -- ── short names ────────────────────────────────────────────────────────────────────────────────

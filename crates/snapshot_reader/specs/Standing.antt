@@ -5,8 +5,7 @@ use mathlib.Core.List.{List, [], _∷_, _++_}
 use mathlib.Core.Option.{Option, none, some}
 use Prim.Native.Nat.{ℕ, _+_, _≤_}
 use lib.ListN.{length, take, drop}
-use Rattle.rules.specs.RoomAndSoundLedger.{Name}
-use Rattle.rules.specs.SnapshotsMigrationCertificates.{Row, Snapshot, Reading, readRow, readRows, snapshotOfBytes, hasLongName}
+use Rattle.rules.specs.SnapshotsMigrationCertificates.{Row, Snapshot, Reading, readRows, snapshotOfBytes, hasLongName}
 use Rattle.big_endian.specs.Layout.{rowAmounts}
 use Rattle.snapshot_reader.specs.declared.StandingRow.{StandingRow}
 use Rattle.snapshot_reader.specs.declared.RowEnd.{RowEnd}
@@ -36,6 +35,10 @@ pub record RowStands (bs : List ℕ) (at : ℕ) : Type 0 where
   pub row : Row
   pub later : List Row
   pub from : RowsFrom bs at (row ∷ later)
+
+-- what holds of the row that starts at this byte, and of the rows after it
+abbrev pub OfRow : (bs : List ℕ) (at : ℕ) → (Row → List Row → Type 0) → Type 0
+OfRow bs at P = (row : Row) (later : List Row) → RowsFrom bs at (row ∷ later) → P row later
 
 -- a snapshot without a name of more than 24 bytes
 pub record ShortNames (bs : List ℕ) : Type 0 where

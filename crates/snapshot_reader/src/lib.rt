@@ -1,11 +1,10 @@
 // A supplied snapshot in lent bytes. Its rows have names of any length up to 255 and are read where they stand, one after the other to the last byte.
 use numbers::Microcents;
 ghost use mathlib.Core.Path.{_≡_};
-ghost use mathlib.Core.List.{List, _∷_};
 ghost use Prim.Native.Nat.{_≤_};
 ghost use lib.ListN.{length, drop};
-ghost use Rattle.rules.specs.SnapshotsMigrationCertificates.{Row, readRow, snapshotOfBytes, hasLongName};
-ghost use Rattle.snapshot_reader.specs.Standing.{isRead, IsSnapshot, RowsFrom, RowStands, RowEnds, EndsName, ReadsRow, OfSnapshot};
+ghost use Rattle.rules.specs.SnapshotsMigrationCertificates.{readRow, snapshotOfBytes, hasLongName};
+ghost use Rattle.snapshot_reader.specs.Standing.{isRead, IsSnapshot, RowStands, OfRow, RowEnds, EndsName, ReadsRow, OfSnapshot};
 
 // As wide as what is read: a row count, and a name's length.
 const MOST_ROWS: u64 = rules::MOST_NAMES as u64;
@@ -87,14 +86,14 @@ pub fn count(bytes: &[u8]) -> u64
 
 pub fn name_end(bytes: &[u8], at: usize) -> usize
     requires { ⌜ RowStands (now bytes) at ⌝ }
-    ensures { λ r. ⌜ ((row : Row) (later : List Row) → RowsFrom (now (bytes .entry)) at (row ∷ later) → EndsName (now (bytes .entry)) at row later r) ⌝ }
+    ensures { λ r. ⌜ OfRow (now (bytes .entry)) at (λ row later. EndsName (now (bytes .entry)) at row later r) ⌝ }
 {
     at + 1 + bytes[at] as usize
 }
 
 pub fn read_row(bytes: &[u8], at: usize) -> StandingRow
     requires { ⌜ RowStands (now bytes) at ⌝ }
-    ensures { λ r. ⌜ ((row : Row) (later : List Row) → RowsFrom (now (bytes .entry)) at (row ∷ later) → ReadsRow (now (bytes .entry)) at row later r) ⌝ }
+    ensures { λ r. ⌜ OfRow (now (bytes .entry)) at (λ row later. ReadsRow (now (bytes .entry)) at row later r) ⌝ }
 {
     let name_end = name_end(bytes, at);
     let second = name_end + 8;

@@ -22,7 +22,7 @@ use Rattle.records.specs.declared.Head.{Head}
 use Rattle.records.specs.declared.Sizes.{Sizes}
 use Rattle.heads.specs.Heads.{stampedHead}
 use Rattle.heads.specs.declared.Stamped.the-variants as stamped
-use Rattle.snapshot_writer.specs.Rows.{headerBytes, WritesRows}
+use Rattle.snapshot_writer.specs.Rows.{headerBytes, WritesRows, accountBytes}
 use Rattle.snapshot_writer.specs.declared.Extent.{Extent}
 use Rattle.room.specs.Contents.{contentsOf, withHead}
 use Rattle.room.specs.Room.{headIn, contentsIn, IsRoom, Performed}
@@ -38,7 +38,7 @@ at-most m n = by-bool (λ b. ltb n m ≡ b → leb m n ≡ not b) (ltb n m) (λ 
 
 module _ (L : Ledger) (size : ℕ) where
   -- the rows measured
-  pub measured : (n : ℕ) → n ≡ length (flatMap rowBytes (accountRows (L .places))) → leb (snapshotHeader + n) size ≡ not (tooShortFor size (snapshotOf L))
+  pub measured : (n : ℕ) → n ≡ length (accountBytes L) → leb (snapshotHeader + n) size ≡ not (tooShortFor size (snapshotOf L))
   measured n e =
       let all : snapshotHeader + n ≡ length (snapshotBytes (snapshotOf L)) = omega (arith, snapshot-size (snapshotOf L)) in
       ap (λ m. leb m size) all ∙ at-most (length (snapshotBytes (snapshotOf L))) size

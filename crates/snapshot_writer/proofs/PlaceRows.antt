@@ -29,7 +29,7 @@ use Rattle.room.specs.Room.{placeWith, placeRecord, IsRoom}
 use Rattle.rules.proofs.ByIndex.{all-read}
 use Rattle.room.proofs.InRoom.{used-places, loaded-place, name-in-room}
 use Rattle.room.proofs.SoundRoom.{places-are, sized, names-stored}
-use Rattle.snapshot_writer.specs.Rows.{rowInPlace, WritesRows}
+use Rattle.snapshot_writer.specs.Rows.{rowInPlace, WritesRows, accountBytes}
 use Rattle.big_endian.specs.Layout.{snapshotHeader, shortestRow, longestRow}
 use Rattle.snapshot_writer.specs.Output.{rowOfPlace, rowSize}
 
@@ -145,7 +145,7 @@ module _ (xs : List ℕ) (L : Ledger) (room : IsRoom xs L) where
   rows-all i h = ap (flatMap rowOfPlace) (take-all i inUse (omega (arith, used-places xs (sized xs L room)))) ∙ whole
 
   -- the first i places take no more than all of them
-  pub size-within : (i : ℕ) → sizeTo xs i ≤ length (flatMap rowBytes (accountRows (L .places)))
+  pub size-within : (i : ℕ) → sizeTo xs i ≤ length (accountBytes L)
   size-within i =
       let split : flatMap rowOfPlace (take i inUse ++ drop i inUse) ≡ accountRows (L .places) = rw take-append-drop whole in
       rw (← split, flatMap-append rowOfPlace, flatMap-append rowBytes, length-append) (omega arith)
@@ -158,8 +158,8 @@ module _ (xs : List ℕ) (L : Ledger) (room : IsRoom xs L) where
       let next : sizeTo xs (suc i) ≡ sizeTo xs i + rowSize (loaded i) = ap (sizeTo xs) (sym (add-one i)) ∙ size-next i h in
       omega (arith, next, size-most i (omega arith), by-bool (λ b. cond b 0 (shortestRow + loaded i .name .length) ≤ longestRow) (eqb (loaded i .account) 0) (λ _. omega arith) (λ _. omega (arith, place-in-room i h .1)))
 
-  pub rows-most : length (flatMap rowBytes (accountRows (L .places))) ≤ longestRow * sizesOf xs .used
+  pub rows-most : length (accountBytes L) ≤ longestRow * sizesOf xs .used
   rows-most =
       let n = sizesOf xs .used in
-      let all : sizeTo xs n ≡ length (flatMap rowBytes (accountRows (L .places))) = ap (λ rs. length (flatMap rowBytes rs)) (rows-all n (omega arith)) in
+      let all : sizeTo xs n ≡ length (accountBytes L) = ap (λ rs. length (flatMap rowBytes rs)) (rows-all n (omega arith)) in
       omega (arith, all, size-most n (omega arith))

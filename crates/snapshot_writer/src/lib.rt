@@ -3,14 +3,14 @@ use heads::Stamped;
 use records::Place;
 ghost use mathlib.Core.Path.{_≡_};
 ghost use mathlib.Core.Bool.{not};
-ghost use mathlib.Core.List.{List, [], _∷_, _++_, flatMap};
-ghost use Prim.Native.Nat.{ℕ, _+_, _≤_, _<_};
+ghost use mathlib.Core.List.{[], _∷_, _++_};
+ghost use Prim.Native.Nat.{_+_, _≤_, _<_};
 ghost use lib.ListN.{length, drop};
-ghost use Rattle.rules.specs.SnapshotsMigrationCertificates.{Row, rowBytes, accountRows, snapshotOf, tooShortFor, snapshot, outputAfter, mostRows};
+ghost use Rattle.rules.specs.SnapshotsMigrationCertificates.{rowBytes, accountRows, snapshotOf, tooShortFor, snapshot, outputAfter, mostRows};
 ghost use Rattle.rules.specs.RoomAndSoundLedger.{longestName};
 ghost use Rattle.big_endian.specs.Layout.{snapshotHeader, rowAmounts, shortestRow};
 ghost use Rattle.room.specs.Room.{SoundRoom, Performs, OfRoom};
-ghost use Rattle.snapshot_writer.specs.Rows.{rowInPlace, amountsBytes, headerBytes, WritesRows};
+ghost use Rattle.snapshot_writer.specs.Rows.{rowInPlace, amountsBytes, headerBytes, WritesRows, accountBytes, Appends};
 ghost use Rattle.snapshot_writer.specs.Output.{rowSize, rowOfPlace, snapshotReply, SizeWithin};
 
 pub enum Snapshotted {
@@ -51,7 +51,7 @@ pub fn append_row(output: &mut [u8], extent: Extent, place: Place) -> Extent
     requires room { ⌜ extent .end + (shortestRow + place .name .length) ≤ length (now output) ⌝ }
     requires short { ⌜ place .name .length ≤ longestName ⌝ }
     requires few { ⌜ extent .rows < mostRows ⌝ }
-    ensures { λ r. ⌜ ((before : List ℕ) (rs : List Row) → WritesRows rs before (now (output .entry)) extent → WritesRows (rs ++ rowInPlace place ∷ []) before (now (output .exit)) r) ⌝ }
+    ensures { λ r. ⌜ Appends (rowInPlace place ∷ []) (now (output .entry)) (now (output .exit)) extent r ⌝ }
 {
     let name = place.name;
     let from = extent.end;
@@ -88,7 +88,7 @@ fn row_size(place: Place) -> usize
 
 fn rows_size(room: &[u8]) -> usize
     requires { ⌜ SoundRoom (now room) ⌝ }
-    ensures { λ r. ⌜ OfRoom (now (room .entry)) (λ L. r ≡ length (flatMap rowBytes (accountRows (L .places)))) ⌝ }
+    ensures { λ r. ⌜ OfRoom (now (room .entry)) (λ L. r ≡ length (accountBytes L)) ⌝ }
 {
     let sizes = records::load_sizes(room);
     let used = sizes.used as usize;
@@ -119,7 +119,7 @@ fn append_account(output: &mut [u8], extent: Extent, place: Place) -> Extent
     requires room { ⌜ extent .end + rowSize place ≤ length (now output) ⌝ }
     requires short { ⌜ place .name .length ≤ longestName ⌝ }
     requires few { ⌜ extent .rows < mostRows ⌝ }
-    ensures { λ r. ⌜ ((before : List ℕ) (rs : List Row) → WritesRows rs before (now (output .entry)) extent → WritesRows (rs ++ rowOfPlace place) before (now (output .exit)) r) ⌝ }
+    ensures { λ r. ⌜ Appends (rowOfPlace place) (now (output .entry)) (now (output .exit)) extent r ⌝ }
 {
     if place.account == 0 {
         return extent;
@@ -129,7 +129,7 @@ fn append_account(output: &mut [u8], extent: Extent, place: Place) -> Extent
 
 // "Accounts ascend by name": the places do. One pass over them.
 fn write_rows(room: &[u8], output: &mut [u8]) -> Extent
-    requires { ⌜ SoundRoom (now room) × (OfRoom (now room) (λ L. snapshotHeader + length (flatMap rowBytes (accountRows (L .places))) ≤ length (now output))) ⌝ }
+    requires { ⌜ SoundRoom (now room) × (OfRoom (now room) (λ L. snapshotHeader + length (accountBytes L) ≤ length (now output))) ⌝ }
     ensures { λ r. ⌜ OfRoom (now (room .entry)) (λ L. WritesRows (accountRows (L .places)) (now (output .entry)) (now (output .exit)) r) ⌝ }
 {
     let sizes = records::load_sizes(room);
@@ -150,7 +150,8 @@ fn write_rows(room: &[u8], output: &mut [u8]) -> Extent
 // over the places, and one more before it to measure them where the output might be too short.
 pub fn snapshot(room: &mut [u8], output: &mut [u8]) -> Snapshotted
     requires { ⌜ SoundRoom (now room) ⌝ }
-    ensures performs { λ r. ⌜ Performs (snapshot (length (now (output .entry)))) (now (room .entry)) (snapshotReply (now (output .exit)) r) (now (room .exit)) ⌝ }
+    ensures performs { λ r. ⌜
+        Performs (snapshot (length (now (output .entry)))) (now (room .entry)) (snapshotReply (now (output .exit)) r) (now (room .exit)) ⌝ }
     ensures output { λ r. ⌜ now (output .exit) ≡ outputAfter (snapshotReply (now (output .exit)) r) (now (output .entry)) ⌝ }
     ensures size { λ r. ⌜ SizeWithin (length (now (output .entry))) r ⌝ }
 {

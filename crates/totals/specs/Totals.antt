@@ -4,7 +4,6 @@ use Prim.Native.Nat.{ℕ, _+_, _^_, _≤_}
 use lib.IntN.{ℤ, pos, _+ℤ_, _*ℤ_}
 use lib.Signed.{mag}
 use Rattle.rules.specs.SnapshotsMigrationCertificates.{fits64}
-use Rattle.numbers.specs.declared.Microcents.{Microcents}
 use Rattle.totals.specs.declared.Total.{Total}
 use Rattle.totals.specs.declared.Fitted.{Fitted}
 use Rattle.totals.specs.declared.Fitted.the-variants.{Fits, Outside}

@@ -4,14 +4,14 @@ use mathlib.Core.Logic.{_≢_}
 use mathlib.Core.Bool.{Bool, true, false}
 use mathlib.Core.List.{List, [], _∷_}
 use mathlib.Core.Option.{Option, some}
-use Prim.Native.Nat.{ℕ, _^_, _≤_, _<_}
+use Prim.Native.Nat.{ℕ, _^_, _<_}
 use native.Mathlib.Omega.{arith}
 use borrow.Author.Tests.{eq-eqb}
 use denote.Enum.Declared.{tagOf, declared}
 use lib.IntN.{ℤ, pos, negsuc}
 use lib.Signed.{mag}
 use types.Run.{OneOf, miss}
-use Rattle.rules.specs.RoomAndSoundLedger.{Name, longestName}
+use Rattle.rules.specs.RoomAndSoundLedger.{Name}
 use Rattle.rules.specs.AnswerNumbers.{Refusal}
 use Rattle.rules.specs.SnapshotsMigrationCertificates.{_gives_else_, andThen, isNegative, equals}
 use Rattle.rules.proofs.Tests.{by-bool}
@@ -20,7 +20,7 @@ use Rattle.numbers.proofs.Amounts.{held, held-is}
 use Rattle.validation.specs.declared.Verdict.{Verdict}
 use Rattle.validation.specs.declared.Verdict.the-variants as verdict
 use Rattle.validation.specs.declared.Judged.{Judged}
-use Rattle.validation.specs.Judgement.{refusalOf, nameless}
+use Rattle.validation.specs.Judgement.{refusalOf, HasShortName, nameless}
 use Rattle.validation.proofs.Verdict.{enum}
 
 module _ (fails : Bool) (refusal : Refusal) (later : Option Refusal) where
@@ -75,5 +75,5 @@ unfolding andThen
 passes-on a v later e = ap (λ u. andThen (refusalOf a u) later) e
 
 -- a verdict that is of no row has the empty name
-pub nameless-short : {j : Judged} {v : Verdict} → j ≡ nameless v → j .name .length ≤ longestName
-nameless-short e = subst (λ j. j .name .length ≤ longestName) (sym e) (omega arith)
+pub nameless-short : {j : Judged} {v : Verdict} → j ≡ nameless v → HasShortName j
+nameless-short e = subst HasShortName (sym e) (omega arith)

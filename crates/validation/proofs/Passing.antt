@@ -1,17 +1,17 @@
 -- A pass that judges row by row, over what it says of a row: the first bad row decides, and a pass that finds none is done.
 use mathlib.Core.Path.{_≡_, refl, sym, ap, _∙_}
 use mathlib.Core.List.{List, [], _∷_, _++_}
-use mathlib.Core.Option.{Option, none, some}
+use mathlib.Core.Option.{Option, none}
 use Prim.Native.Nat.{ℕ, _+_, _≤_, _<_}
 use lib.ListN.{length}
 use Rattle.rules.specs.AnswerNumbers.{Refusal}
-use Rattle.rules.specs.SnapshotsMigrationCertificates.{Row, Snapshot, snapshotOfBytes, andThen, rowConservation, conservation, rowValidation, rowsValidation}
+use Rattle.rules.specs.SnapshotsMigrationCertificates.{Row, andThen, rowConservation, conservation, rowValidation, rowsValidation}
 use Rattle.big_endian.specs.Layout.{snapshotHeader, rowAmounts}
 use Rattle.names.specs.Names.{spelled}
 use Rattle.names.specs.declared.Name.{Name}
-use Rattle.snapshot_reader.specs.Standing.{RowStands, ShortNames, RowOf, Passed}
+use Rattle.snapshot_reader.specs.Standing.{OfSnapshot, RowStands, ShortNames, RowOf, Passed}
 use Rattle.snapshot_reader.proofs.Header.{header}
-use Rattle.snapshot_reader.proofs.Rows.{Ends, AtRow, start, at-row, advance, finished, row-of}
+use Rattle.snapshot_reader.proofs.Rows.{Ends, start, at-row, advance, finished, row-of}
 use Rattle.validation.specs.declared.Verdict.{Verdict}
 use Rattle.validation.specs.declared.Verdict.the-variants.{Done}
 use Rattle.validation.specs.declared.Judged.{Judged}
@@ -68,7 +68,7 @@ module _ (pass : Pass) where
 
     module _ (v : Verdict) (judged : (here : RowOf bytes at) → refusalOf (here .row .name) v ≡ pass .row (here .earlier) (here .row)) where
       pub stops : (name : Name) → ((here : RowOf bytes at) → spelled name ≡ here .row .name) → NotDone v → ShortNames bytes
-          → (s : Snapshot) → snapshotOfBytes bytes ≡ some s → refusalOf (spelled name) v ≡ pass .rest [] (s .rows)
+          → OfSnapshot bytes (λ s. refusalOf (spelled name) v ≡ pass .rest [] (s .rows))
       stops name named not-done known s is-read =
           let names = namesIn known s is-read in
           let a = at-row (coming names) more in
@@ -89,5 +89,5 @@ module _ (pass : Pass) where
           ∙ passes-on (a .row .name) v others done)
 
   pub none-bad : {bytes : List ℕ} {at : ℕ} {j : Judged} → Coming pass bytes at → length bytes ≤ at → j ≡ nameless Done → ShortNames bytes
-      → (s : Snapshot) → snapshotOfBytes bytes ≡ some s → refusalIn j ≡ pass .rest [] (s .rows)
+      → OfSnapshot bytes (λ s. refusalIn j ≡ pass .rest [] (s .rows))
   none-bad coming left is known s is-read = ap refusalIn is ∙ sym (finished (coming (namesIn known s is-read)) left ∙ pass .end (s .rows))

@@ -1,8 +1,9 @@
 -- What a judgement of a supplied snapshot says in document 01's numbers, and the names seen by a pass over its rows.
 use mathlib.Core.List.{List, [], _∷_}
 use mathlib.Core.Option.{Option, none, some}
+use Prim.Native.Nat.{_≤_}
 use lib.IntN.{ℤ}
-use Rattle.rules.specs.RoomAndSoundLedger.{Name}
+use Rattle.rules.specs.RoomAndSoundLedger.{longestName, Name}
 use Rattle.rules.specs.AnswerNumbers.{Reply, Refusal, ActiveReservations, DuplicateTenant, GhostReservation, NegativeLedgerField, ConservationViolation, AggregateOverflow, AlreadyRecoveryAware, InvalidAllocatorFence, LegacySnapshotRequiresMigration, NameTooLong, NamesFull, OutputTooShort, BadFrame, UnsoundLedger, done}
 use Rattle.rules.specs.SnapshotsMigrationCertificates.{Row, replyOr}
 use Rattle.names.specs.Names.{spelled, stored}
@@ -30,6 +31,10 @@ refusalOf a verdict.UnsoundLedger = some UnsoundLedger
 
 abbrev pub refusalIn : Judged → Option Refusal
 refusalIn j = refusalOf (spelled (j .name)) (j .verdict)
+
+-- its name is one that a place can hold
+abbrev pub HasShortName : Judged → Type 0
+HasShortName j = j .name .length ≤ longestName
 
 -- a verdict that is of no row
 abbrev pub nameless : Verdict → Judged

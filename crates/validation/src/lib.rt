@@ -10,7 +10,7 @@ ghost use Rattle.rules.specs.RoomAndSoundLedger.{same, longestName};
 ghost use Rattle.rules.specs.SnapshotsMigrationCertificates.{rowConservation, conservation, rowValidation, rowsValidation, validation, status};
 ghost use Rattle.names.specs.Names.{spelled};
 ghost use Rattle.snapshot_reader.specs.Standing.{IsSnapshot, ShortNames, RowOf, OfSnapshot};
-ghost use Rattle.validation.specs.Judgement.{refusalOf, refusalIn, judgedReply, nameless, rowWith, seenIn};
+ghost use Rattle.validation.specs.Judgement.{refusalOf, refusalIn, judgedReply, nameless, rowWith, seenIn, HasShortName};
 
 // What is said of a snapshot: a check that is refused hands its refusal straight up. A name that it carries stands beside it, since an enum holds no array.
 pub enum Verdict {
@@ -96,7 +96,7 @@ fn row_conservation(bytes: &[u8], at: usize) -> Verdict
 pub fn conservation(bytes: &[u8]) -> Judged
     requires { ⌜ ShortNames (now bytes) ⌝ }
     ensures refusal { λ r. ⌜ OfSnapshot (now (bytes .entry)) (λ s. refusalIn r ≡ conservation (s .rows)) ⌝ }
-    ensures short { λ r. ⌜ r .name .length ≤ longestName ⌝ }
+    ensures short { λ r. ⌜ HasShortName r ⌝ }
 {
     let mut at = rules::SNAPSHOT_HEADER;
     while at < bytes.len() {
@@ -161,7 +161,7 @@ fn row_validation(bytes: &[u8], at: usize) -> Verdict
 fn rows_validation(bytes: &[u8]) -> Judged
     requires { ⌜ ShortNames (now bytes) ⌝ }
     ensures refusal { λ r. ⌜ OfSnapshot (now (bytes .entry)) (λ s. refusalIn r ≡ rowsValidation [] (s .rows)) ⌝ }
-    ensures short { λ r. ⌜ r .name .length ≤ longestName ⌝ }
+    ensures short { λ r. ⌜ HasShortName r ⌝ }
 {
     let mut at = rules::SNAPSHOT_HEADER;
     while at < bytes.len() {
@@ -179,7 +179,7 @@ fn rows_validation(bytes: &[u8]) -> Judged
 pub fn validation(bytes: &[u8]) -> Judged
     requires { ⌜ ShortNames (now bytes) ⌝ }
     ensures refusal { λ r. ⌜ OfSnapshot (now (bytes .entry)) (λ s. refusalIn r ≡ validation s) ⌝ }
-    ensures short { λ r. ⌜ r .name .length ≤ longestName ⌝ }
+    ensures short { λ r. ⌜ HasShortName r ⌝ }
 {
     let active = snapshot_reader::active(bytes);
     if 0 < active {
@@ -197,7 +197,7 @@ pub fn validation(bytes: &[u8]) -> Judged
 pub fn status(bytes: &[u8]) -> Judged
     requires { ⌜ IsSnapshot (now bytes) ⌝ }
     ensures answer { λ r. ⌜ OfSnapshot (now (bytes .entry)) (λ s. judgedReply r ≡ status s) ⌝ }
-    ensures short { λ r. ⌜ r .name .length ≤ longestName ⌝ }
+    ensures short { λ r. ⌜ HasShortName r ⌝ }
 {
     if snapshot_reader::has_long_name(bytes) {
         return nameless(Verdict::NameTooLong);

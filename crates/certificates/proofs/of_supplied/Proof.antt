@@ -1,5 +1,5 @@
 -- `certificates::of_supplied` meets its contract: 19, then the certificate.
-use mathlib.Core.Path.{_≡_, sym, ap, _∙_}
+use mathlib.Core.Path.{sym, ap, _∙_}
 use borrow.Author.Needs.{needs}
 use Rattle.rules.specs.SnapshotsMigrationCertificates.{replyOr, certificate, certificateOfSnapshot}
 use Rattle.validation.proofs.Deciding.{decides, goes-on}

@@ -3,9 +3,8 @@ use mathlib.Core.Path.{refl, ap}
 use mathlib.Core.List.{List}
 use Prim.Native.Nat.{ℕ}
 use borrow.Author.Needs.{needs}
-use Rattle.rules.specs.RoomAndSoundLedger.{Ledger}
 use Rattle.rules.specs.SnapshotsMigrationCertificates.{accountRows, conservationProof}
-use Rattle.room.specs.Room.{IsRoom}
+use Rattle.room.specs.Room.{OfRoom}
 use Rattle.room.proofs.SoundRoom.{sized}
 use Rattle.certificates.specs.Certified.{summaryOf}
 use Rattle.certificates.specs.declared.Summary.{Summary}
@@ -35,7 +34,7 @@ module _ (c : tie.After-put-head-arg) where
   abbrev summary : Summary
   summary = summed .summary .given .0 .0
 
-  taken : (L : Ledger) → IsRoom (room start) L → Taking L summary
+  taken : OfRoom (room start) (λ L. Taking L summary)
   taken L r = let t = summed .before .before in told-taken L (t .summarize .result) (t .summarize .ensures L r) _ (summed .summary .given .1)
 
 put-head-requires : tie.Need-put-head-requires

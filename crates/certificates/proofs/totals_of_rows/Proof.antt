@@ -1,15 +1,14 @@
 -- `certificates::totals_of_rows` meets its contract. The invariant: each total is that of the rows passed.
 use mathlib.Core.Path.{_≡_, sym, _∙_, ap, ap₂, subst}
 use mathlib.Core.List.{List}
-use mathlib.Core.Option.{some}
 use Prim.Native.Nat.{ℕ, _+_, _-_, _≤_}
 use native.Mathlib.Omega.{arith}
 use borrow.Author.Needs.{needs}
 use lib.ListN.{length, length-append}
-use Rattle.rules.specs.SnapshotsMigrationCertificates.{Row, Snapshot, snapshotOfBytes, mostRows}
+use Rattle.rules.specs.SnapshotsMigrationCertificates.{Row, mostRows}
 use Rattle.big_endian.specs.Layout.{rowAmounts}
 use Rattle.totals.specs.declared.Total.{Total}
-use Rattle.snapshot_reader.specs.Standing.{RowStands, Passed}
+use Rattle.snapshot_reader.specs.Standing.{RowStands, Passed, OfSnapshot}
 use Rattle.snapshot_reader.proofs.Header.{header}
 use Rattle.snapshot_reader.proofs.Rows.{Ends, start, stands, forward, advance, finished}
 use Rattle.certificates.specs.Certified.{bothFitted}
@@ -21,7 +20,7 @@ abbrev BothAdded : (initial committed : Total) (earlier later : List Row) → Ty
 BothAdded initial committed earlier later = RowsAdded (λ r. r .initial) earlier initial × RowsAdded (λ r. r .committed) earlier committed
 
 abbrev Inv-loop : tie.InvT-loop
-Inv-loop bytes initial₀ committed₀ at₀ initial committed at = (s : Snapshot) → snapshotOfBytes bytes ≡ some s → Passed bytes (s .rows) at (BothAdded initial committed)
+Inv-loop bytes initial₀ committed₀ at₀ initial committed at = OfSnapshot bytes (λ s. Passed bytes (s .rows) at (BothAdded initial committed))
 
 abbrev μ-loop : tie.MeasureT-loop
 μ-loop bytes initial₀ committed₀ at₀ initial committed at = length bytes - at

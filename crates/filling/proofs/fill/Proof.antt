@@ -1,10 +1,9 @@
 -- `filling::fill` meets its contract.
-use mathlib.Core.Path.{_≡_, _∙_, ap}
-use mathlib.Core.Option.{some}
+use mathlib.Core.Path.{_∙_, ap}
 use borrow.Author.Needs.{needs}
-use Rattle.rules.specs.RoomAndSoundLedger.{Ledger, fenceOf, fresh}
-use Rattle.rules.specs.SnapshotsMigrationCertificates.{Snapshot, snapshotOfBytes}
-use Rattle.room.specs.Room.{IsRoom}
+use Rattle.rules.specs.RoomAndSoundLedger.{fenceOf, fresh}
+use Rattle.room.specs.Room.{IsRoom, OfRoom}
+use Rattle.snapshot_reader.specs.Standing.{OfSnapshot}
 use Rattle.room.proofs.SoundRoom.{sized}
 use Rattle.filling.specs.Filling.{PutsRows}
 use Rattle.filling.proofs.Renewing.{made-anew, empty-takes, head-written}
@@ -14,7 +13,7 @@ use Rattle.filling.proofs.fill.Tie as tie
 abbrev entry : tie.After-make → tie.Start
 entry c = c .before .before .before .before .before .before
 
-emptied : (c : tie.After-make) (L : Ledger) → IsRoom (entry c .args .room .now) L → IsRoom (c .make .last .0) (fresh (L .T) (L .R))
+emptied : (c : tie.After-make) → OfRoom (entry c .args .room .now) (λ L. IsRoom (c .make .last .0) (fresh (L .T) (L .R)))
 emptied c L room = made-anew (entry c .args .room .now) (c .make .last .0) L room (c .before .before .load-sizes .result) (c .before .before .load-sizes .ensures) (c .make .result) (c .make .ensures)
 
 put-rows-requires : tie.Need-put-rows-requires
@@ -26,7 +25,7 @@ put-rows-requires c κs =
     (record { ledger = fresh (L .T) (L .R); is-room = is-room }, empty-takes (m .make .last .0) (s .args .bytes .now) (L .T) (L .R) is-room (s .pre .1 L (s .pre .0 .is-room)))
 
 filled : (c : tie.After-put-rows) → let s = entry (c .before .before .before .before) in
-    (L : Ledger) → IsRoom (s .args .room .now) L → (snapshot : Snapshot) → snapshotOfBytes (s .args .bytes .now) ≡ some snapshot → PutsRows (L .T) (L .R) (snapshot .rows) (c .put-rows .last .0) (c .put-rows .result)
+    OfRoom (s .args .room .now) (λ L. OfSnapshot (s .args .bytes .now) (λ snapshot. PutsRows (L .T) (L .R) (snapshot .rows) (c .put-rows .last .0) (c .put-rows .result)))
 unfolding fresh
 filled c L room snapshot e = c .put-rows .ensures (fresh (L .T) (L .R)) (emptied (c .before .before .before .before) L room) snapshot e
 

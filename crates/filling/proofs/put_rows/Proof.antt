@@ -1,30 +1,27 @@
 -- `filling::put_rows` meets its contract: the room holds the rows passed, and the baseline is their committed total or M.
 use mathlib.Core.Path.{_≡_, refl, sym, _∙_, ap, subst}
-use mathlib.Core.Bool.{false}
-use mathlib.Core.Option.{some}
 use Prim.Native.Nat.{_+_, _-_, _≤_, min}
 use native.Mathlib.Omega.{arith}
 use borrow.Author.Needs.{needs}
-use lib.IntN.{pos}
 use lib.ListN.{length, take, drop}
-use lib.Signed.{ltZ}
 use Rattle.rules.specs.RoomAndSoundLedger.{M, Ledger}
 use Rattle.rules.specs.AccountRules.{natural}
-use Rattle.rules.specs.SnapshotsMigrationCertificates.{Snapshot, snapshotOfBytes}
+use Rattle.rules.specs.SnapshotsMigrationCertificates.{Snapshot, isNegative}
 use Rattle.big_endian.specs.Layout.{rowAmounts}
 use Rattle.numbers.proofs.Bytes.{all-bytes}
-use Rattle.room.specs.Room.{IsRoom}
-use Rattle.snapshot_reader.specs.Standing.{Passed, ReadsRow}
+use Rattle.room.specs.Room.{OfRoom}
+use Rattle.snapshot_reader.specs.Standing.{OfSnapshot, Passed, ReadsRow}
 use Rattle.snapshot_reader.proofs.Header.{header}
 use Rattle.snapshot_reader.proofs.Rows.{AtRow, start, at-row, stands, advance, finished}
-use Rattle.filling.specs.Filling.{seatOfRow}
+use Rattle.filling.specs.Filling.{NoneNegative, seatOfRow}
 use Rattle.filling.proofs.Putting.{passes, Put, none-put, row-natural, row-asks, row-put, name-part}
 use Rattle.filling.proofs.put_rows.Statement.{statement}
 use Rattle.filling.proofs.put_rows.Tie as tie
 
 abbrev Inv-loop : tie.InvT-loop
 Inv-loop room₀ bytes baseline₀ at₀ room baseline at =
-    (length room ≡ length room₀) × (at ≤ length bytes) × ((L : Ledger) → IsRoom room₀ L → (s : Snapshot) → snapshotOfBytes bytes ≡ some s → Passed bytes (s .rows) at (Put (L .T) (L .R) room baseline))
+    (length room ≡ length room₀) × (at ≤ length bytes)
+    × OfRoom room₀ (λ L. OfSnapshot bytes (λ s. Passed bytes (s .rows) at (Put (L .T) (L .R) room baseline)))
 
 abbrev μ-loop : tie.MeasureT-loop
 μ-loop room₀ bytes baseline₀ at₀ room baseline at = length bytes - at
@@ -81,14 +78,12 @@ ends : (c : tie.After-read-row Inv-loop μ-loop) →
     (c .before .before .loop .at + 1 ≤ r .«name_end») × (r .end ≡ r .«name_end» + rowAmounts) × (r .end ≤ length (entry (c .before) .args .bytes .now))
 ends c = let r = read c (ledger (c .before)) (snapshot (c .before)) (row (c .before)) in (omega (arith, r .ends-name .size), r .end, omega (arith, r .end, r .ends-name .within))
 
-naturals : (c : tie.After-read-row Inv-loop μ-loop) →
-    let r = c .read-row .result in
-    (ltZ (r .initial .0) (pos 0) ≡ false) × (ltZ (r .remaining .0) (pos 0) ≡ false) × (ltZ (r .committed .0) (pos 0) ≡ false)
+naturals : (c : tie.After-read-row Inv-loop μ-loop) → NoneNegative (c .read-row .result)
 naturals c =
     let n = row (c .before) in
     let h = row-natural (n .so-far) in
     let r = read c (ledger (c .before)) (snapshot (c .before)) n in
-    (ap (λ z. ltZ z (pos 0)) (r .initial) ∙ h .0, ap (λ z. ltZ z (pos 0)) (r .remaining) ∙ h .1, ap (λ z. ltZ z (pos 0)) (r .committed) ∙ h .2)
+    (ap isNegative (r .initial) ∙ h .0, ap isNegative (r .remaining) ∙ h .1, ap isNegative (r .committed) ∙ h .2)
 
 put-row-requires : tie.Need-put-row-requires Inv-loop μ-loop
 put-row-requires c κs =

@@ -8,7 +8,7 @@ use native.Mathlib.Omega.{arith}
 use borrow.Author.Needs.{needs}
 use borrow.Author.Tests.{lt-ltb, le-ltb}
 use lib.ListN.{length}
-use Rattle.rules.specs.RoomAndSoundLedger.{M, hasTag, longestName}
+use Rattle.rules.specs.RoomAndSoundLedger.{M, hasTag}
 use Rattle.rules.specs.AnswerNumbers.{Refusal, OutputTooShort}
 use Rattle.rules.specs.SnapshotsMigrationCertificates.{Snapshot, snapshotOfBytes, snapshotBytes, withVersion, tagged, hasLongName}
 use Rattle.rules.proofs.Tests.{none-some}
@@ -17,7 +17,7 @@ use Rattle.names.specs.Names.{spelled}
 use Rattle.validation.specs.declared.Judged.{Judged}
 use Rattle.validation.specs.declared.Verdict.{Verdict}
 use Rattle.validation.specs.declared.Verdict.the-variants as verdict
-use Rattle.validation.specs.Judgement.{refusalOf, refusalIn, nameless}
+use Rattle.validation.specs.Judgement.{refusalOf, refusalIn, nameless, HasShortName}
 use Rattle.validation.proofs.Deciding.{decides, goes-on, refuses, passes-on}
 use Rattle.migration.proofs.MigratedBytes.{migrated-length}
 use Rattle.migration.proofs.Refusing.{Decided, Passed, roomFor, long-name, aware, no-fence, high-fence, validated}
@@ -38,7 +38,7 @@ module _ (c : tie.Start) where
   Room = (c .args .fence ≤ M) × (length (c .args .bytes .now) ≤ c .args .size)
 
   abbrev Ensured : Judged → Type 0
-  Ensured r = ((s : Snapshot) → Read s → Answers s (refusalIn r)) × ((refusalIn r ≡ none → Room) × (r .name .length ≤ longestName))
+  Ensured r = ((s : Snapshot) → Read s → Answers s (refusalIn r)) × ((refusalIn r ≡ none → Room) × HasShortName r)
 
 module _ (c : tie.Start) (r : Judged) where
   decided : (v : Verdict) → r ≡ nameless v → ((s : Snapshot) → Read c s → Answers c s (refusalOf [] v)) → (refusalOf [] v ≡ none → Room c) → Ensured c r

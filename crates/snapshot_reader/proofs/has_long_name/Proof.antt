@@ -1,25 +1,23 @@
 -- `snapshot_reader::has_long_name` meets its contract. The invariant: the rows to come decide.
 use mathlib.Core.Path.{_≡_, refl, sym, _∙_}
 use mathlib.Core.Bool.{true, false}
-use mathlib.Core.Option.{some}
-use Prim.Native.Nat.{_+_, _-_, _≤_, _<_}
+use Prim.Native.Nat.{_-_}
 use native.Mathlib.Omega.{arith}
 use borrow.Author.Needs.{needs}
 use borrow.Author.Tests.{lt-ltb, le-ltb}
 use lib.ListN.{length}
 use Rattle.rules.specs.Lists.{any}
 use Rattle.rules.specs.AccountRules.{isTooLong}
-use Rattle.rules.specs.SnapshotsMigrationCertificates.{Snapshot, snapshotOfBytes, hasLongName}
+use Rattle.rules.specs.SnapshotsMigrationCertificates.{hasLongName}
 use Rattle.rules.specs.RoomAndSoundLedger.{longestName}
-use Rattle.big_endian.specs.Layout.{rowAmounts}
-use Rattle.snapshot_reader.specs.Standing.{RowStands, Passed}
-use Rattle.snapshot_reader.proofs.Rows.{first-row, start, at-row, stands, forward, advance, finished}
+use Rattle.snapshot_reader.specs.Standing.{OfSnapshot, RowStands, Passed}
+use Rattle.snapshot_reader.proofs.Rows.{first-row, start, at-row, stands, Further, forward, advance, finished}
 use Rattle.snapshot_reader.proofs.Header.{header}
 use Rattle.snapshot_reader.proofs.has_long_name.Statement.{statement}
 use Rattle.snapshot_reader.proofs.has_long_name.Tie as tie
 
 abbrev Inv-loop : tie.InvT-loop
-Inv-loop bytes at₀ at = (s : Snapshot) → snapshotOfBytes bytes ≡ some s → Passed bytes (s .rows) at (λ earlier later. hasLongName (s .rows) ≡ hasLongName later)
+Inv-loop bytes at₀ at = OfSnapshot bytes (λ s. Passed bytes (s .rows) at (λ earlier later. hasLongName (s .rows) ≡ hasLongName later))
 
 abbrev μ-loop : tie.MeasureT-loop
 μ-loop bytes at₀ at = length bytes - at
@@ -30,8 +28,7 @@ entry l = l .before .before
 here : (c : tie.In-loop Inv-loop μ-loop) → RowStands (entry (c .before) .args .bytes .now) (c .before .loop .at)
 here c = let is = entry (c .before) .pre in stands (c .before .loop .inv (is .snapshot) (is .is-read)) (c .loop-test .taken)
 
-further : (c : tie.After-name-end Inv-loop μ-loop) → let i = c .before .before .before in
-    (i .before .loop .at < c .name-end .result + rowAmounts) × (c .name-end .result + rowAmounts ≤ length (entry (i .before) .args .bytes .now))
+further : (c : tie.After-name-end Inv-loop μ-loop) → let l = c .before .before .before .before in Further (entry l .args .bytes .now) (l .loop .at) (c .name-end .result)
 further c = forward (here (c .before .before .before)) (c .name-end .ensures)
 
 loop-holds : tie.Need-loop-holds Inv-loop μ-loop

@@ -1,23 +1,23 @@
 -- `snapshot_writer::snapshot` meets its contract.
 use mathlib.Core.Path.{_≡_, refl, sym, ap, _∙_}
 use mathlib.Core.Bool.{false}
-use mathlib.Core.List.{List, flatMap}
+use mathlib.Core.List.{List}
 use Prim.Native.Nat.{ℕ, _+_, _≤_}
 use native.Mathlib.Omega.{arith}
 use borrow.Author.Needs.{needs}
 use borrow.Author.Tests.{not-true, not-false, ltb-false}
 use lib.ListN.{length}
-use Rattle.rules.specs.RoomAndSoundLedger.{Ledger}
-use Rattle.rules.specs.SnapshotsMigrationCertificates.{rowBytes, accountRows, snapshotBytes, snapshotOf, tooShortFor}
+use Rattle.rules.specs.SnapshotsMigrationCertificates.{accountRows, snapshotBytes, snapshotOf, tooShortFor}
 use Rattle.big_endian.specs.Layout.{snapshotHeader}
 use Rattle.records.specs.declared.Head.{Head}
 use Rattle.heads.specs.Heads.{stampedHead}
-use Rattle.room.specs.Room.{headIn, IsRoom}
+use Rattle.room.specs.Room.{headIn, OfRoom}
 use Rattle.room.proofs.SoundRoom.{head-is, sized}
 use Rattle.snapshot_writer.proofs.PlaceRows.{snapshot-size}
 use Rattle.snapshot_writer.proofs.Answering.{WrittenInto, written-out, answers-exhausted, answers-short, answers-written}
 use Rattle.snapshot_writer.proofs.snapshot.Statement.{statement}
 use Rattle.snapshot_writer.proofs.snapshot.Tie as tie
+use Rattle.snapshot_writer.specs.Rows.{accountBytes}
 
 abbrev room : tie.Start → List ℕ
 room s = s .args .room .now
@@ -36,7 +36,7 @@ stamp-requires c κs =
 abbrev start : tie.After-stamp → tie.Start
 start c = c .before .before .before .before .before
 
-stamps : (c : tie.After-stamp) (L : Ledger) → IsRoom (room (start c)) L → stampedHead (headIn L) ≡ c .stamp .result
+stamps : (c : tie.After-stamp) → OfRoom (room (start c)) (λ L. stampedHead (headIn L) ≡ c .stamp .result)
 stamps c L r = sym (c .stamp .ensures ∙ ap stampedHead (c .before .load-head .ensures ∙ head-is (room (start c)) L r))
 
 returns : tie.Need-returns
@@ -58,10 +58,10 @@ returns-2 c =
       (refl, tt),
     )
 
-enough : (c : tie.Else1) (L : Ledger) → IsRoom (room (entry (c .before))) L → tooShortFor (length (output (entry (c .before)))) (snapshotOf L) ≡ false
+enough : (c : tie.Else1) → OfRoom (room (entry (c .before))) (λ L. tooShortFor (length (output (entry (c .before)))) (snapshotOf L) ≡ false)
 enough c L r = not-true _ (sym (c .before .has-room .ensures L r) ∙ not-false _ (c .if1 .left))
 
-long : (c : tie.Else1) (L : Ledger) → IsRoom (room (entry (c .before))) L → snapshotHeader + length (flatMap rowBytes (accountRows (L .places))) ≤ length (output (entry (c .before)))
+long : (c : tie.Else1) → OfRoom (room (entry (c .before))) (λ L. snapshotHeader + length (accountBytes L) ≤ length (output (entry (c .before))))
 long c L r = omega (arith, ltb-false (length (output (entry (c .before)))) (length (snapshotBytes (snapshotOf L))) (enough c L r), snapshot-size (snapshotOf L))
 
 -- ── the snapshot written ───────────────────────────────────────────────────────────────────────
@@ -90,8 +90,9 @@ counted c = c .before .before .before .before
 abbrev head : tie.Else1 → Head
 head c = c .before .before .before .before .head .given .0 .0
 
-into : (c : tie.After-write-header) (L : Ledger) → let w = counted c in let e = roomy w in let s = entry (e .before) in IsRoom (room s) L
-    → WrittenInto (output s) (c .write-header .last .0) (w .write-rows .result .end) (record { version = head e .«last_version»; active = w .before .before .before .load-sizes .result .live; rows = accountRows (L .places) })
+into : (c : tie.After-write-header) → let w = counted c in let e = roomy w in let s = entry (e .before) in
+    OfRoom (room s) (λ L. WrittenInto (output s) (c .write-header .last .0) (w .write-rows .result .end)
+    (record { version = head e .«last_version»; active = w .before .before .before .load-sizes .result .live; rows = accountRows (L .places) }))
 into c L r =
     let w = counted c in
     written-out _ (output (entry (roomy w .before))) (w .write-rows .last .1 .0) (c .write-header .last .0) (w .write-rows .result) (omega (arith, long (roomy w) L r)) (w .write-rows .ensures L r) (c .write-header .ensures)

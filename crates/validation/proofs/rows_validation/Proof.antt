@@ -1,11 +1,10 @@
 -- `validation::rows_validation` meets its contract. The invariant: the rows to come decide, with the names of those passed.
-use Prim.Native.Nat.{_+_, _-_, _≤_, _<_}
+use Prim.Native.Nat.{_-_}
 use native.Mathlib.Omega.{arith}
 use borrow.Author.Needs.{needs}
 use lib.ListN.{length}
-use Rattle.big_endian.specs.Layout.{rowAmounts}
 use Rattle.snapshot_reader.specs.Standing.{RowOf}
-use Rattle.snapshot_reader.proofs.Rows.{forward}
+use Rattle.snapshot_reader.proofs.Rows.{Further, forward}
 use Rattle.validation.specs.Judgement.{seenIn}
 use Rattle.validation.proofs.Deciding.{nameless-short}
 use Rattle.validation.proofs.Passing.{validating, Coming, first, row-there, standing, stops, goes-on, none-bad}
@@ -22,7 +21,7 @@ here : (c : tie.In-loop Inv-loop μ-loop) → RowOf (c .before .before .before .
 here c = row-there validating (c .before .loop .inv) (c .loop-test .taken) (c .before .before .before .pre)
 
 further : (c : tie.After-name-end Inv-loop μ-loop)
-    → let l = c .before .before .before .before .before in (l .loop .at < c .name-end .result + rowAmounts) × (c .name-end .result + rowAmounts ≤ length (l .before .before .args .bytes .now))
+    → let l = c .before .before .before .before .before in Further (l .before .before .args .bytes .now) (l .loop .at) (c .name-end .result)
 further c = forward (standing (here (c .before .before .before .before))) (c .name-end .ensures)
 
 returns : tie.Need-returns Inv-loop μ-loop

@@ -2,17 +2,15 @@
 use mathlib.Core.Path.{_≡_, refl, sym, ap, _∙_}
 use mathlib.Core.Bool.{true, false}
 use mathlib.Core.List.{List, _∷_}
-use Prim.Native.Nat.{ℕ, _+_, _-_, _≤_, _<_}
+use Prim.Native.Nat.{ℕ, _-_}
 use native.Mathlib.Omega.{arith}
 use borrow.Author.Needs.{needs}
-use lib.ListN.{length}
 use Rattle.rules.specs.Lists.{any}
 use Rattle.rules.specs.RoomAndSoundLedger.{same}
 use Rattle.rules.specs.SnapshotsMigrationCertificates.{Row}
-use Rattle.big_endian.specs.Layout.{rowAmounts}
-use Rattle.snapshot_reader.specs.Standing.{RowsFrom, RowStands, RowOf, Passed, EndsName}
+use Rattle.snapshot_reader.specs.Standing.{RowStands, OfRow, RowOf, Passed, EndsName}
 use Rattle.snapshot_reader.proofs.Header.{header}
-use Rattle.snapshot_reader.proofs.Rows.{AtRow, start, at-row, forward, advance}
+use Rattle.snapshot_reader.proofs.Rows.{AtRow, start, at-row, Further, forward, advance}
 use Rattle.snapshot_reader.proofs.Towards.{Towards, towards-start, towards-turn, towards-end}
 use Rattle.validation.proofs.Seen.{isNamed, any-before, any-there, seen-earlier}
 use Rattle.validation.proofs.Standing.{part-is-name}
@@ -59,7 +57,7 @@ module _ (c : tie.After-is-same Inv-loop μ-loop) where
   abbrev turn : tie.In-loop Inv-loop μ-loop
   turn = c .before .before .before .before
 
-  compared : (here : Here turn) (row : Row) (later : List Row) → RowsFrom (bytes turn) (turn .before .loop .earlier) (row ∷ later) → same (here .row .name) (row .name) ≡ c .is-same .result
+  compared : (here : Here turn) → OfRow (bytes turn) (turn .before .loop .earlier) (λ row later. same (here .row .name) (row .name) ≡ c .is-same .result)
   compared here row later from =
       let left = part-is-name (turn .before .before .name-end .ensures (here .row) (here .later) (here .from)) in
       let right = part-is-name (c .before .before .before .name-end2 .ensures row later from) in
@@ -91,7 +89,7 @@ returns-2 c here =
     let all : p .earlier ≡ here .earlier = towards-end (here .from) (p .from) (c .loop-test .left) (p .so-far .0) in
     sym (seen-earlier (here .row .name) (here .earlier) ∙ ap (any (isNamed (here .row .name))) (sym all) ∙ p .so-far .1)
 
-further : (c : tie.After-name-end2 Inv-loop μ-loop) → let l = c .before .before in (l .loop .earlier < c .name-end2 .result + rowAmounts) × (c .name-end2 .result + rowAmounts ≤ length (bytes (c .before)))
+further : (c : tie.After-name-end2 Inv-loop μ-loop) → Further (bytes (c .before)) (c .before .before .loop .earlier) (c .name-end2 .result)
 further c = forward (row-stands (c .before)) (c .name-end2 .ensures)
 
 pub seen-earlier-spec : {M : Type 1} → statement M

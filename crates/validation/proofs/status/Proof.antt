@@ -1,10 +1,10 @@
 -- `validation::status` meets its contract: 19, then conservation.
-use mathlib.Core.Path.{_≡_, sym, ap, _∙_}
+use mathlib.Core.Path.{sym, ap, _∙_}
 use mathlib.Core.List.{[]}
 use borrow.Author.Needs.{needs}
 use Rattle.rules.specs.AnswerNumbers.{done}
 use Rattle.rules.specs.SnapshotsMigrationCertificates.{replyOr, status}
-use Rattle.validation.specs.Judgement.{refusalIn, judgedReply}
+use Rattle.validation.specs.Judgement.{judgedReply}
 use Rattle.validation.proofs.Deciding.{decides, goes-on, nameless-short}
 use Rattle.validation.proofs.status.Statement.{statement}
 use Rattle.validation.proofs.status.Tie as tie

@@ -6,7 +6,8 @@ use native.Mathlib.Omega.{arith}
 use borrow.Author.Needs.{needs}
 use borrow.Author.Tests.{lt-ltb, le-ltb}
 use Rattle.rules.specs.AnswerNumbers.{ActiveReservations}
-use Rattle.rules.specs.SnapshotsMigrationCertificates.{Snapshot, snapshotOfBytes, andThen, conservation, validation}
+use Rattle.rules.specs.SnapshotsMigrationCertificates.{andThen, conservation, validation}
+use Rattle.snapshot_reader.specs.Standing.{OfSnapshot}
 use Rattle.names.specs.Names.{spelled}
 use Rattle.validation.specs.Judgement.{refusalIn}
 use Rattle.validation.proofs.Deciding.{decides, goes-on, refuses, passes-on, nameless-short}
@@ -24,7 +25,8 @@ returns c = (
 )
 
 -- none live: the rows decide, and then their conservation
-by-rows : (c : tie.After-rows-validation) (s : Snapshot) → snapshotOfBytes (c .before .before .before .before .args .bytes .now) ≡ some s → validation s ≡ andThen (refusalIn (c .rows-validation .result)) (conservation (s .rows))
+by-rows : (c : tie.After-rows-validation)
+    → OfSnapshot (c .before .before .before .before .args .bytes .now) (λ s. validation s ≡ andThen (refusalIn (c .rows-validation .result)) (conservation (s .rows)))
 unfolding validation
 by-rows c s e =
     let none-live : s .active ≤ 0 = omega (arith, c .before .before .active .ensures s e, c .before .if1 .left) in
