@@ -22,7 +22,7 @@ not-done : (v : Verdict) → NotDone v → v ≡ verdict.Done → ⊥
 not-done v other done = none-some (sym (ap (refusalOf []) done) ∙ refuses [] v (some NameTooLong) other ∙ passes-on [] v (some NameTooLong) done)
 
 module _ {bytes before : List ℕ} {v : Verdict} (checked : FirstCheck bytes before v) where
-  -- "23, then 24": nothing is answered but that, and nothing changes
+  -- nothing is answered but 23 or 24, and nothing changes
   pub refused : (f : Ledger → Snapshot → Outcome) {j : Judged} → j ≡ nameless v → NotDone v → AnswersSnapshot f (snapshotOfBytes bytes) before (judgedReply j) before
   unfolding replyOr
   refused f {j} is other = by-option (λ o. AnswersSnapshot f o before (judgedReply j) before) (snapshotOfBytes bytes)

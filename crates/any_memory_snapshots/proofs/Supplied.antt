@@ -23,7 +23,7 @@ module _ (bytes : List ℕ) (r : Bool) (asked : r ≡ isRead (snapshotOfBytes by
   pub some-read : not r ≡ false → snapshotOfBytes bytes ≢ none
   some-read e none-read = none-some (sym none-read ∙ is-snapshot e .is-read)
 
-  -- "23": nothing is answered but that
+  -- nothing is answered but 23
   pub bad-judged : (f : Snapshot → Reply) (reply : Reply) → not r ≡ true → reply ≡ replyOf BadFrame → reply ≡ onSupplied f (snapshotOfBytes bytes)
   bad-judged f reply e is = by-option (λ o. reply ≡ onSupplied f o) (snapshotOfBytes bytes)
       (λ _. is) (λ s read. absurd (no-snapshot e (record { snapshot = s; is-read = read })))

@@ -28,7 +28,7 @@ pub fn snapshot(room: &mut [u8], output: &mut [u8]) -> Snapshotted
     snapshot_writer::snapshot(room, output)
 }
 
-// "Order everywhere: 23, 24": one pass over the bytes and, where they are a snapshot, one over the memory.
+// 23 before 24: one pass over the bytes and, where they are a snapshot, one over the memory.
 fn first_check(room: &[u8], bytes: &[u8]) -> Verdict
     ensures { λ r. ⌜ FirstCheck (now (bytes .entry)) (now (room .entry)) r ⌝ }
 {
@@ -79,7 +79,7 @@ pub fn migrate(bytes: &[u8], fence: u64, output: &mut [u8]) -> Judged
     migration::migrate(bytes, fence, output)
 }
 
-// "conservation status of a snapshot": three passes over the bytes.
+// Whether a supplied snapshot balances: three passes over the bytes.
 pub fn status(bytes: &[u8]) -> Judged
     ensures answer { λ r. ⌜ judgedReply r ≡ onSupplied status (snapshotOfBytes (now (bytes .entry))) ⌝ }
     ensures short { λ r. ⌜ HasShortName r ⌝ }

@@ -1,8 +1,8 @@
 // Numbers as frames and snapshots write them: big-endian, amounts in two's complement. And a version's tag and fence, by mask.
 use numbers::Microcents;
-ghost use mathlib.Core.Path.{_≡_};
 ghost use Prim.Native.Nat.{_≤_};
 ghost use lib.ListN.{length};
+ghost use mathlib.Core.Path.{_≡_};
 ghost use Rattle.rules.specs.RoomAndSoundLedger.{M, hasTag, fenceOf};
 ghost use Rattle.rules.specs.SnapshotsMigrationCertificates.{bytesOf, numberOf, twosComplement, signed, amountBytes, tagged};
 
@@ -55,7 +55,7 @@ pub fn write2(bytes: &mut [u8], number: u64)
     bytes[1] = (number % 256) as u8;
 }
 
-// "signed in two's complement": a cast must fit, so the upper half is brought down first.
+// Two's complement: a cast must fit, so the upper half is brought down first.
 pub fn signed(word: u64) -> Microcents
     ensures { λ r. ⌜ r .0 ≡ signed word ⌝ }
 {
@@ -89,7 +89,7 @@ pub fn write_amount(bytes: &mut [u8], amount: Microcents)
     write8(bytes, word_of(amount));
 }
 
-// "bit 63 set and the low 63 bits not zero": the tag is tested, and the fence cut out, by mask.
+// A version is a tag, its highest bit, and a fence, the bits below: the one is tested, and the other cut out, by mask.
 pub fn has_tag(version: u64) -> bool
     ensures { λ r. ⌜ r ≡ hasTag version ⌝ }
 {
@@ -102,7 +102,7 @@ pub fn fence_of(version: u64) -> u64
     version & rules::M
 }
 
-// "2^63 plus fence"
+// The version that carries a fence.
 pub fn tagged(fence: u64) -> u64
     requires { ⌜ fence ≤ M ⌝ }
     ensures { λ r. ⌜ r ≡ tagged fence ⌝ }

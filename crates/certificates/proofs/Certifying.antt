@@ -38,7 +38,7 @@ replied version rows active balanced initial committed representable since =
     done (Version version ∷ Count rows ∷ Count active ∷ YesOrNo balanced ∷ Amount initial ∷ Amount committed ∷ YesOrNo representable ∷ Amount since ∷ [])
 
 module _ (s : Snapshot) (since : ℤ) (version rows active : ℕ) (v : version ≡ s .version) (n : rows ≡ length (s .rows)) (a : active ≡ s .active) where
-  -- "If either exact total doesn't fit, both are 0 and representable and balanced are 0."
+  -- a total that does not fit
   pub certified-outside : totalsFit (s .rows) ≡ false → replied version rows active false (pos 0) (pos 0) false since ≡ certificate s since
   unfolding certificate
   certified-outside e = rw e (λ i. replied (v i) (n i) (a i) false (pos 0) (pos 0) false since)

@@ -35,7 +35,7 @@ headed h L = record { T = L .T; R = L .R; nextId = h .«next_id»; lastVersion =
 abbrev pub rotatedIn : Ledger → Rotated
 rotatedIn L = rotationOf (totalsFit (accountRows (L .places))) (summaryOf L .head) (committedTotal (L .places))
 
--- "version, accounts, active, both totals, 1"
+-- what the conservation proof answers
 abbrev pub proved : Summary → Microcents → Microcents → Reply
 proved s a b = proofReply (record { version = s .head .«last_version»; accounts = s .rows; active = s .active; «initial_total» = a; «committed_total» = b })
 
@@ -46,7 +46,7 @@ module _ (L : Ledger) (known : Sound L) where
   pub proof-sound : Sound (conservationProof L .ledger)
   proof-sound = unfold answer onLent in answer-sound (sound L) known proveConservation tt
 
-  -- "a sound ledger's own snapshot is balanced"
+  -- a sound ledger's own snapshot is balanced
   pub own-balanced : true ≡ isNone (conservation (accountRows (L .places)))
   own-balanced = sym (ap isNone (own-snapshot-balanced L known))
 
@@ -55,7 +55,7 @@ module _ (L : Ledger) (not-last : nextIdIsM L ≡ false) where
   unfolding takingSnapshot
   goes-on o = rw not-last
 
-  -- "the baseline moves, only if the totals fit and the total is larger": the two tests as one, and one after the other
+  -- whether the baseline moves: the two tests as one, and one after the other
   pub certificate-is : certificateOfLedger L ≡ outcome (certificate (snapshotOf L) (pos (rotatedIn L .since))) (headed (rotatedIn L .head) L)
   unfolding certificateOfLedger
   certificate-is =
@@ -82,7 +82,7 @@ module _ (L : Ledger) (not-last : nextIdIsM L ≡ false) where
 -- ── the room ───────────────────────────────────────────────────────────────────────────────────
 
 module _ (xs : List ℕ) (L : Ledger) (room : IsRoom xs L) (f : Ledger → Outcome) where
-  -- "next id M gives 9"
+  -- no id is left to draw
   pub stays : (o : Outcome) → f L ≡ takingSnapshot L o → nextIdIsM L ≡ true → Performed f L (replyOf AllocatorExhausted) xs
   unfolding takingSnapshot
   stays o e last =

@@ -24,7 +24,7 @@ use Rattle.certificates.specs.declared.Summary.{Summary}
 use Rattle.certificates.specs.declared.Summarized.{Summarized}
 use Rattle.certificates.specs.declared.Summarized.the-variants as summarized
 
--- "version, rows, active, balanced, initial total, committed total, representable, since"
+-- the eight values of a certificate, in the paper's order
 abbrev pub certificateReply : Certificate → Reply
 certificateReply c =
     done
@@ -45,7 +45,7 @@ certifiedReply certified.NameTooLong = replyOf NameTooLong
 certifiedReply certified.BadFrame = replyOf BadFrame
 certifiedReply certified.UnsoundLedger = replyOf UnsoundLedger
 
--- "version, accounts, active, both totals, 1"
+-- the six values of a conservation proof, the last of which is always yes
 abbrev pub proofReply : Proof → Reply
 proofReply p =
     done (Version (p .version) ∷ Count (p .accounts) ∷ Count (p .active) ∷ Amount (p .«initial_total» .0) ∷ Amount (p .«committed_total» .0) ∷ YesOrNo true ∷ [])
@@ -56,14 +56,14 @@ provedReply proved.AllocatorExhausted = replyOf AllocatorExhausted
 provedReply proved.AggregateOverflow = replyOf AggregateOverflow
 provedReply proved.UnsoundLedger = replyOf UnsoundLedger
 
--- "If either exact total doesn't fit": both totals, or that one of them is outside signed 64 bits
+-- both totals, or that one of them is outside signed 64 bits
 abbrev pub bothFitted : (initial committed : ℤ) → Totals
 bothFitted initial committed = cond (fits64 initial && fits64 committed) (totals.Fit (record { 0 = initial }) (record { 0 = committed })) totals.Outside
 
 abbrev pub totalsOf : List Row → Totals
 totalsOf rs = bothFitted (initialTotal rs) (committedRowsTotal rs)
 
--- "the baseline moves, only if the totals fit and the total is larger"
+-- the baseline moves where both totals fit and the committed one is above it
 abbrev pub rotationOf : (fit : Bool) → Head → (total : ℕ) → Rotated
 rotationOf fit h total = cond fit (rotatedHead h total) (record { since = 0; head = h })
 
@@ -71,6 +71,6 @@ rotationOf fit h total = cond fit (rotatedHead h total) (record { since = 0; hea
 abbrev pub summaryOf : Ledger → Summary
 summaryOf L = record { head = headIn (afterSnapshot L); rows = length (snapshotOf L .rows); active = snapshotOf L .active; totals = totalsOf (snapshotOf L .rows) }
 
--- "next id M gives 9"
+-- a snapshot is taken where there is an id left to draw
 abbrev pub summarizedOf : Ledger → Summarized
 summarizedOf L = cond (nextIdIsM L) summarized.AllocatorExhausted (summarized.Taken (summaryOf L))

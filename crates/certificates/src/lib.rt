@@ -131,7 +131,7 @@ fn is_balanced(bytes: &[u8]) -> bool
     true
 }
 
-// "If either exact total doesn't fit, both are 0 and representable and balanced are 0."
+// Where one of the totals does not fit, both are told as 0, and the snapshot is called neither balanced nor representable.
 fn certify(
     version: u64,
     rows: u64,
@@ -160,15 +160,15 @@ fn certify(
         version,
         rows,
         active,
-        balanced,
         initial_total,
         committed_total,
+        balanced,
         representable: true,
         since,
     }
 }
 
-// "Certificate over a supplied snapshot and a given since": two passes over the rows, one for the totals and one for the balance.
+// Two passes over the rows, one for the totals and one for the balance.
 fn of_snapshot(bytes: &[u8], since: Microcents) -> Certificate
     requires { ⌜ ShortNames (now bytes) ⌝ }
     ensures { λ r. ⌜ OfSnapshot (now (bytes .entry)) (λ s. certificateReply r ≡ certificate s (since .0)) ⌝ }
@@ -192,7 +192,7 @@ pub fn of_supplied(bytes: &[u8], since: Microcents) -> Certified
     Certified::Certificate(of_snapshot(bytes, since))
 }
 
-// "the baseline moves, only if the totals fit and the total is larger": a ledger's committed total is never negative.
+// The baseline rises to the committed total, and never falls; where the totals do not fit, it stays. A ledger's committed total is never negative.
 fn rotation(head: Head, totals: Totals) -> Rotated
     ensures { λ r. ⌜ ((rs : List Row) (total : ℕ) → totals ≡ totalsOf rs → committedRowsTotal rs ≡ pos total → r ≡ rotationOf (totalsFit rs) head total) ⌝ }
 {
@@ -205,7 +205,7 @@ fn rotation(head: Head, totals: Totals) -> Rotated
     heads::after_rotation(head, total)
 }
 
-// What the ledger's own snapshot says beside its rows, and the head that it stamps: "next id M gives 9". Two passes over the places.
+// What the ledger's own snapshot says beside its rows, and the head that it stamps; 9 as for a snapshot. Two passes over the places.
 fn summarize(room: &[u8]) -> Summarized
     requires { ⌜ SoundRoom (now room) ⌝ }
     ensures { λ r. ⌜ OfRoom (now (room .entry)) (λ L. r ≡ summarizedOf L) ⌝ }
@@ -224,7 +224,7 @@ fn summarize(room: &[u8]) -> Summarized
     })
 }
 
-// "Certificate of the ledger: takes a snapshot (9 possible ..)". A sound ledger's own snapshot is balanced.
+// The certificate of the ledger's own snapshot, which is balanced since the ledger is sound. The rows themselves are not written.
 pub fn of_ledger(room: &mut [u8]) -> Certified
     requires { ⌜ SoundRoom (now room) ⌝ }
     ensures { λ r. ⌜ Performs certificateOfLedger (now (room .entry)) (certifiedReply r) (now (room .exit)) ⌝ }
@@ -241,7 +241,7 @@ pub fn of_ledger(room: &mut [u8]) -> Certified
     Certified::Certificate(certify(version, summary.rows, summary.active, true, totals, since))
 }
 
-// "takes a snapshot (9), then 15 if totals don't fit": then next id and last version have moved.
+// The head is stamped before the totals are looked at, so 15 leaves it stamped.
 pub fn prove(room: &mut [u8]) -> Proved
     requires { ⌜ SoundRoom (now room) ⌝ }
     ensures { λ r. ⌜ Performs conservationProof (now (room .entry)) (provedReply r) (now (room .exit)) ⌝ }

@@ -14,7 +14,7 @@ use Rattle.snapshot_reader.specs.declared.StandingRow.{StandingRow}
 use Rattle.room.specs.Contents.{contentsOf}
 use Rattle.room.specs.Room.{contentsIn, IsRoom}
 
--- a snapshot that a ledger with room for so many names takes: "then validation; more rows than T gives 20"
+-- a snapshot that a ledger with room for so many names takes: every check of a restore but that of the version passes
 pub record Takes (names : ℕ) (bs : List ℕ) : Type 0 where
   pub snapshot : Snapshot
   pub is-read : snapshotOfBytes bs ≡ some snapshot
@@ -40,7 +40,7 @@ abbrev pub seatOfRow : Row → Seat
 seatOfRow r =
     record { initial = natural (r .initial); remaining = natural (r .remaining); reserved = 0; committed = natural (r .committed); limit = 0; account = 1 }
 
--- the room of a fresh ledger with these rows put into it, and "the committed total or M"
+-- the room of a fresh ledger with these rows put into it, and the baseline that they give
 pub record PutsRows (t r : ℕ) (rs : List Row) (room : List ℕ) (baseline : ℕ) : Type 0 where
   pub is-room : IsRoom room (withPlaces (fresh t r) (restoredPlaces rs))
   pub total : baseline ≡ min (committedTotal (restoredPlaces rs)) M

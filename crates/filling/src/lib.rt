@@ -24,7 +24,7 @@ fn natural(amount: Microcents) -> u64
     x as u64
 }
 
-// "the committed total or M"
+// What a total grows to, or M where it would pass it.
 fn capped(total: u64, more: u64) -> u64
     requires { ⌜ total ≤ M ⌝ }
     ensures { λ r. ⌜ r ≡ min (total + more) M ⌝ }
@@ -81,7 +81,8 @@ fn put_rows(room: &mut [u8], bytes: &[u8]) -> u64
     baseline
 }
 
-// "It clears live reservations and limits, sets next id to the low 63 bits, last version, and the baseline to the committed total or M."
+// What a restore makes of the ledger: the rows' accounts and nothing else, the version and the next id that it carries, and a baseline at which nothing is
+// committed since.
 pub fn fill(room: &mut [u8], bytes: &[u8])
     requires { ⌜ SoundRoom (now room) × (OfRoom (now room) (λ L. Takes (L .T) (now bytes))) ⌝ }
     ensures { λ _. ⌜ OfRoom (now (room .entry)) (λ L. OfSnapshot (now (bytes .entry)) (λ s. Holds (restored L s) (now (room .entry)) (now (room .exit)))) ⌝ }

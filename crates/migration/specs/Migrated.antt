@@ -7,7 +7,7 @@ use Rattle.rules.specs.SnapshotsMigrationCertificates.{Snapshot, snapshotBytes,
 use Rattle.validation.specs.Judgement.{refusalIn}
 use Rattle.validation.specs.declared.Judged.{Judged}
 
--- "the same snapshot with version 2^63 plus fence"
+-- the snapshot supplied, but for its version
 abbrev pub migratedTo : (fence : ℕ) → Snapshot → Reply
 migratedTo fence s = done (SnapshotBytes (snapshotBytes (withVersion (tagged fence) s)) ∷ [])
 

@@ -12,7 +12,7 @@ ghost use Rattle.snapshot_reader.specs.Standing.{IsSnapshot, OfSnapshot};
 ghost use Rattle.validation.specs.Judgement.{refusalIn, HasShortName};
 ghost use Rattle.migration.specs.Migrated.{migratedTo, migratedReply};
 
-// 19; "bit 63 set gives 16; fence 0 or above M gives 17; validation"; 22 last.
+// 19; 16 of a version that has the tag already; 17 of a fence that no version could carry; then the validation, and 22 last.
 fn refusal(bytes: &[u8], fence: u64, size: usize) -> Judged
     requires { ⌜ IsSnapshot (now bytes) ⌝ }
     ensures answer { λ r. ⌜ OfSnapshot (now (bytes .entry)) (λ s. replyOr (refusalIn r) (migratedTo fence s) ≡ migrate size fence s) ⌝ }

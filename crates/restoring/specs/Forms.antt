@@ -9,7 +9,7 @@ use Rattle.rules.specs.Domain.{SnapshotFits}
 use Rattle.snapshot_reader.specs.Standing.{OfSnapshot}
 use Rattle.room.specs.Room.{Performs}
 
--- "then the same"
+-- what either form comes to after its own check of the version
 abbrev pub restoreBy : (of-version : Option Refusal) → Ledger → Snapshot → Outcome
 restoreBy of-version L s = orElse (restoreRefusal of-version (L .T) s) L (restored L s)
 

@@ -9,7 +9,7 @@ ghost use Rattle.validation.specs.Judgement.{refusalOf, refusalIn, judgedReply,
 ghost use Rattle.room.specs.Room.{SoundRoom};
 ghost use Rattle.restoring.specs.Forms.{restoreBy, Restores, Keeps};
 
-// "version without bit 63 or with low bits 0 gives 13, empty name, field 4, value = version or M if larger"
+// 13 of a version without its tag, and of a tag without a fence: of no row, of the version's field, and with the version as an amount, so at most M.
 fn restore_version(version: u64) -> Verdict
     ensures { λ r. ⌜ refusalOf [] r ≡ restoreVersion version ⌝ }
 {
@@ -22,7 +22,7 @@ fn restore_version(version: u64) -> Verdict
     Verdict::Done
 }
 
-// "The recovery form gives 18 without bit 63, then 17 carrying 0"
+// The same two versions in the recovery form: the first is one to be migrated (18), the second has a bad fence (17), which is 0.
 fn recovery_version(version: u64) -> Verdict
     ensures { λ r. ⌜ refusalOf [] r ≡ recoveryVersion version ⌝ }
 {
@@ -35,8 +35,7 @@ fn recovery_version(version: u64) -> Verdict
     Verdict::Done
 }
 
-// 19, then what the version gave, "then validation; more rows than T gives 20": three passes over the rows, one of which compares each name with those
-// before it.
+// 19, then what the version gave, then the validation, and 20 last: three passes over the rows, one of which compares each name with those before it.
 fn refusal(names: u64, bytes: &[u8], of_version: Verdict) -> Judged
     requires { ⌜ IsSnapshot (now bytes) ⌝ }
     ensures refusal { λ r. ⌜ OfSnapshot (now (bytes .entry)) (λ s. refusalIn r ≡ restoreRefusal (refusalOf [] «of_version») names s) ⌝ }

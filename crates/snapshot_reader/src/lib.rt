@@ -1,8 +1,8 @@
 // A supplied snapshot in lent bytes. Its rows have names of any length up to 255 and are read where they stand, one after the other to the last byte.
 use numbers::Microcents;
-ghost use mathlib.Core.Path.{_≡_};
 ghost use Prim.Native.Nat.{_≤_};
 ghost use lib.ListN.{length, drop};
+ghost use mathlib.Core.Path.{_≡_};
 ghost use Rattle.rules.specs.SnapshotsMigrationCertificates.{readRow, snapshotOfBytes, hasLongName};
 ghost use Rattle.snapshot_reader.specs.Standing.{isRead, IsSnapshot, RowStands, OfRow, RowEnds, EndsName, ReadsRow, OfSnapshot};
 
@@ -41,7 +41,8 @@ fn row_end(bytes: &[u8], at: usize) -> RowEnd
     RowEnd::At(at + size)
 }
 
-// "A wrong length or more than 256 rows is 23." One pass over the rows, which looks at the length of each name alone.
+// Whether bytes are a snapshot: every row that the count promises is there, nothing stands behind them, and they are no more than a ledger has names. One
+// pass over the rows, which looks at the length of each name alone.
 pub fn is_snapshot(bytes: &[u8]) -> bool
     ensures { λ r. ⌜ r ≡ isRead (snapshotOfBytes (now (bytes .entry))) ⌝ }
 {
@@ -110,7 +111,7 @@ pub fn read_row(bytes: &[u8], at: usize) -> StandingRow
     }
 }
 
-// "a name length over 24 whose bytes fit": one pass over the rows.
+// 19 of a supplied snapshot (document 01, "Frames"): a name that no place could hold. One pass over the rows.
 pub fn has_long_name(bytes: &[u8]) -> bool
     requires { ⌜ IsSnapshot (now bytes) ⌝ }
     ensures { λ r. ⌜ OfSnapshot (now (bytes .entry)) (λ s. r ≡ hasLongName (s .rows)) ⌝ }

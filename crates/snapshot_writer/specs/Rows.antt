@@ -15,11 +15,11 @@ abbrev pub rowInPlace : Place → Row
 rowInPlace p =
     record { name = spelled (p .name); initial = pos (p .initial); remaining = pos (p .remaining); reserved = pos (p .reserved); committed = pos (p .committed) }
 
--- "initial, remaining, reserved, committed"
+-- a row's four amounts
 abbrev pub amountsBytes : Place → List ℕ
 amountsBytes p = bytesOf 8 (p .initial) ++ bytesOf 8 (p .remaining) ++ bytesOf 8 (p .reserved) ++ bytesOf 8 (p .committed)
 
--- "version (8), active count (8), row count (2, ..)"
+-- the numbers before the rows
 abbrev pub headerBytes : (version active count : ℕ) → List ℕ
 headerBytes version active count = bytesOf 8 version ++ bytesOf 8 active ++ bytesOf 2 count
 

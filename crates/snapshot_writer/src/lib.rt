@@ -101,7 +101,7 @@ fn rows_size(room: &[u8]) -> usize
     size
 }
 
-// "output too short gives 22". Output with room for the longest names needs no pass over the places to tell.
+// Whether all of the snapshot fits; 22 is for where it does not. Output with room for the longest names needs no pass over the places to tell.
 fn has_room(room: &[u8], size: usize) -> bool
     requires { ⌜ SoundRoom (now room) ⌝ }
     ensures { λ r. ⌜ OfRoom (now (room .entry)) (λ L. r ≡ not (tooShortFor size (snapshotOf L))) ⌝ }
@@ -127,7 +127,7 @@ fn append_account(output: &mut [u8], extent: Extent, place: Place) -> Extent
     append_row(output, extent, place)
 }
 
-// "Accounts ascend by name": the places do. One pass over them.
+// The rows ascend by name since the places do. One pass over them.
 fn write_rows(room: &[u8], output: &mut [u8]) -> Extent
     requires { ⌜ SoundRoom (now room) × (OfRoom (now room) (λ L. snapshotHeader + length (accountBytes L) ≤ length (now output))) ⌝ }
     ensures { λ r. ⌜ OfRoom (now (room .entry)) (λ L. WritesRows (accountRows (L .places)) (now (output .entry)) (now (output .exit)) r) ⌝ }
@@ -146,7 +146,7 @@ fn write_rows(room: &[u8], output: &mut [u8]) -> Extent
     extent
 }
 
-// "next id M gives 9; output too short gives 22; else next id grows by 1 and the version is 2^63 plus the new next id, stored as last version." One pass
+// The snapshot rule: 9 where no id is left to draw, then 22; else an id is drawn, and the version that carries the next one is written and kept. One pass
 // over the places, and one more before it to measure them where the output might be too short.
 pub fn snapshot(room: &mut [u8], output: &mut [u8]) -> Snapshotted
     requires { ⌜ SoundRoom (now room) ⌝ }

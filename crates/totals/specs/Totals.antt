@@ -1,4 +1,4 @@
--- "A total is a signed high word and an unsigned low word": the integer that the two words are, and whether it is one of 64 bits.
+-- A total of two words: the integer that they are, and whether 64 bits hold it.
 use mathlib.Core.Bool.{cond}
 use Prim.Native.Nat.{ℕ, _+_, _^_, _≤_}
 use lib.IntN.{ℤ, pos, _+ℤ_, _*ℤ_}
@@ -15,6 +15,6 @@ valueOf t = t .high *ℤ pos (2 ^ 64) +ℤ pos (t .low)
 abbrev pub Moved : ℕ → Total → Type 0
 Moved n t = mag (t .high) ≤ n
 
--- "outside signed 64 bits"
+-- the amount that an integer is, or that it is none
 abbrev pub fitted : ℤ → Fitted
 fitted z = cond (fits64 z) (Fits (record { 0 = z })) Outside

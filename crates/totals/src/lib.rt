@@ -1,7 +1,7 @@
-// Exact totals of amounts, in the place of the Rust's 128 bits: a signed high word and an unsigned low word.
+// Exact totals of amounts, in the place of the Rust's 128 bits: two words, of which the high one has the sign (document 01, "The shape of some places").
 use numbers::Microcents;
-ghost use mathlib.Core.Path.{_≡_};
 ghost use Prim.Native.Nat.{_+_, _^_, _<_};
+ghost use mathlib.Core.Path.{_≡_};
 ghost use lib.IntN.{pos, _+ℤ_, _-ℤ_};
 ghost use lib.Signed.{mag};
 ghost use Rattle.totals.specs.Totals.{valueOf, Moved, fitted};

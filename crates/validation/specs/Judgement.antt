@@ -47,7 +47,7 @@ judgedReply j = replyOr (refusalIn j) (done [])
 abbrev pub rowWith : Name → (initial remaining reserved committed : ℤ) → Row
 rowWith a initial remaining reserved committed = record { name = a; initial = initial; remaining = remaining; reserved = reserved; committed = committed }
 
--- "name seen earlier": the names of the rows passed, before those seen already
+-- the names of the rows passed, before those seen already
 unfoldable pub seenIn : (seen : List Name) → List Row → List Name
 seenIn seen [] = seen
 seenIn seen (r ∷ rs) = seenIn (r .name ∷ seen) rs

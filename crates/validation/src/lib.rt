@@ -3,8 +3,8 @@ use names::Name;
 use numbers::Microcents;
 use totals::Fitted;
 ghost use mathlib.Core.Path.{_≡_};
-ghost use Prim.Native.Nat.{ℕ, _≤_};
 ghost use mathlib.Core.List.{List, []};
+ghost use Prim.Native.Nat.{ℕ, _≤_};
 ghost use Rattle.rules.specs.Lists.{any};
 ghost use Rattle.rules.specs.RoomAndSoundLedger.{same, longestName};
 ghost use Rattle.rules.specs.SnapshotsMigrationCertificates.{rowConservation, conservation, rowValidation, rowsValidation, validation, status};
@@ -46,8 +46,8 @@ pub fn nameless(verdict: Verdict) -> Judged
     Judged { name, verdict }
 }
 
-// "the exact sum of remaining, reserved and committed; outside signed 64 bits gives 15. If the sum isn't initial, delta = sum - initial gives 14, or 15
-// if delta doesn't fit. If remaining is negative, 14 with remaining as delta."
+// The conservation of one row: its three parts must add up to initial. A sum that 64 bits do not hold is 15; another sum is 14 with the difference, or 15
+// where they do not hold that; and where the parts add up, a negative remaining is 14 too, and is carried.
 fn balance_of(
     initial: Microcents,
     remaining: Microcents,
@@ -92,7 +92,7 @@ fn row_conservation(bytes: &[u8], at: usize) -> Verdict
     balance_of(row.initial, row.remaining, row.reserved, row.committed)
 }
 
-// "The first bad row decides." One pass over the rows.
+// The first row that does not balance is answered. One pass over the rows.
 pub fn conservation(bytes: &[u8]) -> Judged
     requires { ⌜ ShortNames (now bytes) ⌝ }
     ensures refusal { λ r. ⌜ OfSnapshot (now (bytes .entry)) (λ s. refusalIn r ≡ conservation (s .rows)) ⌝ }
@@ -110,7 +110,7 @@ pub fn conservation(bytes: &[u8]) -> Judged
     nameless(Verdict::Done)
 }
 
-// "name seen earlier": the row's name against that of each row before it.
+// 11: the row's name against that of each row before it.
 fn seen_earlier(bytes: &[u8], at: usize) -> bool
     requires { ⌜ RowOf (now bytes) at ⌝ }
     ensures { λ r. ⌜ ((here : RowOf (now (bytes .entry)) at) → r ≡ any (same (here .row .name)) (seenIn [] (here .earlier))) ⌝ }
@@ -129,7 +129,7 @@ fn seen_earlier(bytes: &[u8], at: usize) -> bool
     false
 }
 
-// "11 (name seen earlier), 12 (reserved not 0), 13 for fields 1, 2, 3"
+// The checks of one row: 11, then 12, then 13 of remaining, of initial and of committed.
 fn row_validation(bytes: &[u8], at: usize) -> Verdict
     requires { ⌜ RowOf (now bytes) at ⌝ }
     ensures { λ r. ⌜ ((here : RowOf (now (bytes .entry)) at) → refusalOf (here .row .name) r ≡ rowValidation (seenIn [] (here .earlier)) (here .row)) ⌝ }
@@ -175,7 +175,7 @@ fn rows_validation(bytes: &[u8]) -> Judged
     nameless(Verdict::Done)
 }
 
-// "active count above 0 gives 10; then for each row ..; then conservation over all rows": two passes over the rows.
+// The ledger validation: nothing may be live (10), the rows are checked one by one, and then they must balance. Two passes over the rows.
 pub fn validation(bytes: &[u8]) -> Judged
     requires { ⌜ ShortNames (now bytes) ⌝ }
     ensures refusal { λ r. ⌜ OfSnapshot (now (bytes .entry)) (λ s. refusalIn r ≡ validation s) ⌝ }
@@ -193,7 +193,7 @@ pub fn validation(bytes: &[u8]) -> Judged
     conservation(bytes)
 }
 
-// "conservation status of a snapshot", 19 before it: two passes over the rows.
+// What frame 0e asks of a snapshot: 19, then whether its rows balance. Two passes over the rows.
 pub fn status(bytes: &[u8]) -> Judged
     requires { ⌜ IsSnapshot (now bytes) ⌝ }
     ensures answer { λ r. ⌜ OfSnapshot (now (bytes .entry)) (λ s. judgedReply r ≡ status s) ⌝ }

@@ -20,7 +20,7 @@ use Rattle.certificates.proofs.of_ledger.Tie as tie
 abbrev room : tie.Start → List ℕ
 room s = s .args .room .now
 
--- "next id M gives 9"
+-- no id is left to draw
 returns : tie.Need-returns
 unfolding certificateOfLedger
 returns c L r =

@@ -17,7 +17,7 @@ use Rattle.certificates.proofs.prove.Tie as tie
 abbrev room : tie.Start → List ℕ
 room s = s .args .room .now
 
--- "next id M gives 9"
+-- no id is left to draw
 returns : tie.Need-returns
 unfolding conservationProof
 returns c L r =
@@ -40,7 +40,7 @@ module _ (c : tie.After-put-head-arg) where
 put-head-requires : tie.Need-put-head-requires
 put-head-requires c κs = let s = start c in sized (room s) (s .pre .ledger) (s .pre .is-room)
 
--- "then 15 if totals don't fit": the head has moved
+-- the totals do not fit, and the head is stamped
 returns-2 : tie.Need-returns-2
 returns-2 c L r =
     let put = c .before .before .before .before in
