@@ -1,4 +1,4 @@
--- What the contract of a read leaves open: nothing. For any memory, its answer is fixed.
+-- What the contract of a read leaves open: nothing. For any memory its answer is fixed, by whether it is sound.
 use mathlib.Core.Path.{_≡_, sym, _∙_}
 use mathlib.Core.Bool.{Bool}
 use mathlib.Core.List.{List}

@@ -1,5 +1,5 @@
 -- What the contracts leave open: nothing. For any memory, any bytes and any output, the answer, every byte of the memory and every byte of the output are
--- fixed.
+-- fixed: by whether the bytes are a snapshot, by the soundness of the memory, and by the answer.
 use mathlib.Core.Path.{_≡_, sym, _∙_, ap}
 use mathlib.Core.Bool.{Bool}
 use mathlib.Core.List.{List}

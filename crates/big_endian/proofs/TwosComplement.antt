@@ -1,4 +1,5 @@
--- Amounts in two's complement, as code brings a word down into the range of a signed number, and lifts a negative number out of it.
+-- Amounts in two's complement, as code brings a word down into the range of a signed number, and lifts a negative number out of it: each by the sign, where ℤ
+-- computes to a natural number that `omega` sees.
 use mathlib.Core.Path.{_≡_, refl, sym}
 use mathlib.Core.Bool.{true, false}
 use Prim.Native.Nat.{ℕ, suc, _+_, _-_, _^_, _≤_, _<_}

@@ -1,4 +1,4 @@
--- A version's tag, bit 63, and its fence, the bits below, by mask.
+-- A version's tag, bit 63, and its fence, the bits below: a mask of one high bit is a quotient's last bit, and one of low bits is a remainder.
 use mathlib.Core.Path.{_≡_, refl, sym, ap}
 use mathlib.Core.Logic.{_≢_}
 use mathlib.Core.Bool.{true, not}

@@ -1,4 +1,4 @@
--- What is said of two exact totals: that both are amounts of 64 bits, or that one of them is not.
+-- What is said of two exact totals: that both are amounts of 64 bits, or that one of them is not. By the two tests, which code asks one after the other.
 use mathlib.Core.Path.{_≡_, refl}
 use mathlib.Core.Bool.{true, false, cond, _&&_}
 use Prim.Native.Nat.{ℕ}

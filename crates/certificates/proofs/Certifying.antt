@@ -1,4 +1,4 @@
--- A certificate and a rotation, from the totals that were fitted.
+-- A certificate and a rotation, from the totals that were fitted: what was told of them decides the rule's test, and then the values are equal one by one.
 use mathlib.Core.Path.{_≡_, sym, _∙_, ap, subst}
 use mathlib.Core.Bool.{Bool, true, false}
 use mathlib.Core.List.{List, [], _∷_}

@@ -1,4 +1,5 @@
--- An amount added up over the places of a sound room is its exact total over the rows of the ledger's own snapshot.
+-- An amount added up over the places of a sound room is its exact total over the rows of the ledger's own snapshot: a place without an account adds 0 and has
+-- no row. Said once over a kind of amount.
 use mathlib.Core.Path.{_≡_, refl, sym, _∙_, ap, subst}
 use mathlib.Core.List.{List, [], _∷_}
 use mathlib.Core.Option.{Option, none, some}

@@ -1,4 +1,5 @@
--- The summary of a sound room is that of its ledger's own snapshot, and what it tells.
+-- The summary of a sound room is that of its ledger's own snapshot, and what it tells: each part read from the room is the ledger's, and the stamp decides
+-- whether there is one.
 use mathlib.Core.Path.{_≡_, refl, sym, _∙_, ap}
 use mathlib.Core.Bool.{true, false, cond}
 use mathlib.Core.List.{List, [], _∷_}

@@ -1,4 +1,5 @@
--- A room made anew at its own sizes, and the head that a restore writes last.
+-- A room made anew at its own sizes, and the head that a restore writes last: made so, it is the room of a fresh ledger, and rows and head together are the
+-- rules' restored ledger, field by field.
 use mathlib.Core.Path.{_≡_, refl, sym, _∙_, ap, subst}
 use mathlib.Core.List.{List}
 use Prim.Native.Nat.{ℕ}

@@ -1,4 +1,5 @@
--- The bytes of a migrated snapshot: the version stands in the first eight, and all others are those supplied.
+-- The bytes of a migrated snapshot: the version stands in the first eight, and all others are those supplied, since bytes read as a snapshot are the only
+-- ones that spell it.
 use mathlib.Core.Path.{_≡_, sym, ap, _∙_}
 use mathlib.Core.List.{List, _++_}
 use mathlib.Core.Option.{some}

@@ -1,4 +1,4 @@
--- The checks of a migration: one law for each answer, in their order.
+-- The checks of a migration: one law for each answer, in their order; each walks the rule's checks to the one that decides.
 use mathlib.Core.Path.{_≡_, sym, ap, _∙_}
 use mathlib.Core.Logic.{_≢_}
 use mathlib.Core.Bool.{true, false}

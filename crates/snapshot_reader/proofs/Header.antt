@@ -1,4 +1,5 @@
--- The head of a snapshot's bytes: what it says by its places, when it is refused, and that just its count of rows follows.
+-- The head of a snapshot's bytes: what it says by its places, when it is refused, and that just its count of rows follows. The rules' reader is followed step
+-- by step, from what each of its parts takes (RowBytes).
 use mathlib.Core.Path.{_≡_, refl, sym, _∙_, ap, subst}
 use mathlib.Core.List.{List, [], _∷_}
 use mathlib.Core.Option.{Option, none, some}

@@ -1,4 +1,5 @@
--- A pass over the rows of bytes, row by row, decides whether they are a snapshot.
+-- A pass over the rows of bytes, row by row, decides whether they are a snapshot: whether all is read is a test that each row passed hands on to the rows
+-- left.
 use mathlib.Core.Path.{_≡_, refl, sym, _∙_, ap}
 use mathlib.Core.Bool.{Bool, true, false, cond}
 use mathlib.Core.List.{List, _∷_}

@@ -1,4 +1,5 @@
--- The readers of the rules, by the bytes that each takes: none where too few are there, and else the value by its place in the bytes.
+-- The readers of the rules, by the bytes that each takes: none where too few are there, and else the value by its place in the bytes. Said of one reader, and
+-- of one after another, it is said of the row.
 use mathlib.Core.Path.{_≡_, refl, sym, _∙_, ap, subst}
 use mathlib.Core.List.{List, [], _∷_}
 use mathlib.Core.Option.{none, some}

@@ -1,4 +1,5 @@
--- Rows where they stand: what the first byte of a row tells of it, how far the rows reach, and a pass over them, row by row.
+-- Rows where they stand: what the first byte of a row tells of it, how far the rows reach, and a pass over them, row by row. A loop's proof takes `start`,
+-- `advance` and `finished` from here, and brings only what it says of the rows passed.
 use mathlib.Core.Path.{_≡_, refl, sym, ap, _∙_, subst}
 use mathlib.Core.Bool.{false}
 use mathlib.Core.List.{List, [], _∷_, _++_, append-nil}

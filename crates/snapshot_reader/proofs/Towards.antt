@@ -1,4 +1,5 @@
--- A pass that goes towards a row, and not to the end: the rows that it passes until it comes to where the row starts.
+-- A pass that goes towards a row, and not to the end: the rows that it passes until it comes to where the row starts. Which they are follows from the
+-- lengths, since from any byte on the rows are as long as the bytes.
 use mathlib.Core.Path.{_≡_, refl, sym, ap, _∙_}
 use mathlib.Core.List.{List, [], _∷_, _++_, append-nil}
 use Prim.Native.Nat.{ℕ, _≤_, _<_}

@@ -1,4 +1,5 @@
--- What `snapshot` answers on the room of a sound ledger is what the rules answer, and the bytes that it leaves are theirs.
+-- What `snapshot` answers on the room of a sound ledger is what the rules answer, and the bytes that it leaves are theirs: one law for each way that the rule
+-- goes, and that header, rows and old content together are the snapshot before the old content.
 use mathlib.Core.Path.{_≡_, refl, sym, _∙_, ap, ap₂, subst}
 use mathlib.Core.Bool.{true, false, not}
 use mathlib.Core.List.{List, [], _∷_, _++_, flatMap, append-assoc}

@@ -1,4 +1,5 @@
--- The rows of the places in use of a sound room, place by place: how long they are, and that together they are the ledger's.
+-- The rows of the places in use of a sound room, place by place: how long they are, and that together they are the ledger's. A place's record spells the row
+-- that the rules make of the place, so a pass over the records appends the rules' rows.
 use mathlib.Core.Path.{_≡_, refl, sym, _∙_, ap, subst}
 use mathlib.Core.Bool.{cond}
 use mathlib.Core.List.{List, [], _∷_, _++_, map, flatMap, append-nil}

@@ -1,4 +1,4 @@
--- The conservation of one row: one law for each answer, over its amounts.
+-- The conservation of one row: one law for each answer, over its amounts. Each walks the rule's checks to the one that decides.
 use mathlib.Core.Path.{_≡_, _∙_, ap}
 use mathlib.Core.Logic.{_≢_}
 use mathlib.Core.Bool.{true, false, not}

@@ -1,4 +1,4 @@
--- The names seen by a pass over the rows.
+-- The names seen by a pass over the rows: whether one is among them does not depend on their order, so the rules' list and the code's pass agree.
 use mathlib.Core.Path.{_≡_, refl, _∙_}
 use mathlib.Core.Bool.{Bool, true, false, _||_}
 use mathlib.Core.List.{List, [], _∷_, _++_}

@@ -1,4 +1,5 @@
--- A row where it stands: the part of the bytes that is its name, its amounts as they are read, and the row that a pass has come to.
+-- A row where it stands: the part of the bytes that is its name, its amounts as they are read, and the row that a pass has come to. Two readings of the same
+-- bytes are one, so what is known of some snapshot is known of the caller's.
 use mathlib.Core.Path.{_≡_, sym, ap, subst, _∙_}
 use mathlib.Core.Bool.{false}
 use mathlib.Core.List.{List}

@@ -1,4 +1,4 @@
--- The validation of one row: one law for each answer, in the order of its checks.
+-- The validation of one row: one law for each answer, in the order of its checks; each supposes what the checks before it found.
 use mathlib.Core.Path.{_≡_, _∙_, ap}
 use mathlib.Core.Logic.{_≢_}
 use mathlib.Core.Bool.{true, false, not}

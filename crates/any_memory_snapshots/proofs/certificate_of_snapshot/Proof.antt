@@ -1,4 +1,5 @@
--- `any_memory_snapshots::certificate_of_snapshot` meets its contract: 23, then the certificate.
+-- `any_memory_snapshots::certificate_of_snapshot` meets its contract: 23 where the bytes are no snapshot, and else what `certificates` promises of one
+-- (Supplied).
 use mathlib.Core.Path.{refl}
 use borrow.Author.Needs.{needs}
 use Rattle.rules.specs.SnapshotsMigrationCertificates.{certificateOfSnapshot}

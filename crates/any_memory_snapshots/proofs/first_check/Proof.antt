@@ -1,4 +1,4 @@
--- `any_memory_snapshots::first_check` meets its contract: whether the bytes are a snapshot, and only then whether the memory is sound.
+-- `any_memory_snapshots::first_check` meets its contract: whether the bytes are a snapshot is decided first, and only then whether the memory is sound.
 use mathlib.Core.Path.{refl}
 use mathlib.Core.Logic.{inl, inr}
 use borrow.Author.Needs.{needs}

@@ -1,4 +1,5 @@
--- `any_memory_snapshots::migrate` meets its contract: 23, then the migration.
+-- `any_memory_snapshots::migrate` meets its contract: 23 where the bytes are no snapshot, with the output as it was, and else what `migration` promises of
+-- one (Supplied).
 use mathlib.Core.Path.{sym, ap}
 use borrow.Author.Needs.{needs}
 use lib.ListN.{length}

@@ -1,4 +1,4 @@
--- `any_memory_snapshots::recovery_restore` meets its contract: the first check, then the operation proper.
+-- `any_memory_snapshots::recovery_restore` meets its contract: as `restore`, of the other form (FirstChecked).
 use borrow.Author.Needs.{needs}
 use Rattle.rules.specs.SnapshotsMigrationCertificates.{recoveryRestore}
 use Rattle.validation.proofs.Deciding.{nameless-short}

@@ -1,4 +1,4 @@
--- `any_memory_snapshots::restore` meets its contract: the first check, then the operation proper.
+-- `any_memory_snapshots::restore` meets its contract: what `first_check` refuses is answered so, and what it passes is what `restoring` asks (FirstChecked).
 use borrow.Author.Needs.{needs}
 use Rattle.rules.specs.SnapshotsMigrationCertificates.{restore}
 use Rattle.validation.proofs.Deciding.{nameless-short}

@@ -1,4 +1,5 @@
--- `any_memory_snapshots::snapshot` meets its contract: checked first, then the operation proper.
+-- `any_memory_snapshots::snapshot` meets its contract: memory that is no sound room is 24 and stays, and of a sound one `snapshot_writer` promises the rest
+-- (soundness, Checked).
 use mathlib.Core.Path.{refl}
 use borrow.Author.Needs.{needs}
 use borrow.Author.Tests.{not-false}

@@ -1,4 +1,4 @@
--- `any_memory_snapshots::status` meets its contract: 23, then the judgement.
+-- `any_memory_snapshots::status` meets its contract: 23 where the bytes are no snapshot, and else what `validation` promises of one (Supplied).
 use mathlib.Core.Path.{ap}
 use borrow.Author.Needs.{needs}
 use Rattle.rules.specs.SnapshotsMigrationCertificates.{replyOr, status}

@@ -1,4 +1,4 @@
--- `big_endian::read2` meets its contract: the little-endian number of the bytes backwards, one law over the size.
+-- `big_endian::read2` meets its contract: the bytes joined are the little-endian number of the bytes backwards, by the one law that serves every size.
 use mathlib.Core.Path.{_∙_}
 use native.Mathlib.Omega.{arith}
 use borrow.Author.Needs.{needs}

@@ -1,4 +1,4 @@
--- `big_endian::read8` meets its contract: the little-endian number of the bytes backwards, one law over the size.
+-- `big_endian::read8` meets its contract: as `read2`, by the same law at another size; each byte is known to fit.
 use mathlib.Core.Path.{_∙_}
 use native.Mathlib.Omega.{arith}
 use borrow.Author.Needs.{needs}

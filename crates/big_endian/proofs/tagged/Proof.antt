@@ -1,4 +1,4 @@
--- `big_endian::tagged` meets its contract: a fence of at most M leaves bit 63 free.
+-- `big_endian::tagged` meets its contract: a fence of at most M leaves bit 63 free, so the sum stays in 64 bits.
 use native.Mathlib.Omega.{arith}
 use borrow.Author.Needs.{needs}
 use Rattle.rules.specs.RoomAndSoundLedger.{M}

@@ -1,4 +1,5 @@
--- `big_endian::write2` meets its contract: one law over the size.
+-- `big_endian::write2` meets its contract: each byte is a quotient's remainder, by the one law that serves every size (BigEndian); no store changes the
+-- length.
 use native.Mathlib.Omega.{arith}
 use borrow.Author.Needs.{needs}
 use lib.ListN.{length-set}

@@ -1,4 +1,4 @@
--- `big_endian::write8` meets its contract: one law over the size.
+-- `big_endian::write8` meets its contract: as `write2`, by the same law at another size.
 use native.Mathlib.Omega.{arith}
 use borrow.Author.Needs.{needs}
 use lib.ListN.{length-set}

@@ -1,4 +1,4 @@
--- `certificates::certify` meets its contract.
+-- `certificates::certify` meets its contract: by whether the totals fit, one law of Certifying each.
 use borrow.Author.Needs.{needs}
 use Rattle.certificates.proofs.Certifying.{told-outside, told-fit, certified-outside, certified-fit}
 use Rattle.certificates.proofs.certify.Statement.{statement}

@@ -1,4 +1,4 @@
--- `certificates::fit_both` meets its contract.
+-- `certificates::fit_both` meets its contract: the two totals are fitted one after the other, and the rule's test is of both (BothTotals).
 use mathlib.Core.Path.{sym, _∙_}
 use borrow.Author.Needs.{needs}
 use Rattle.totals.specs.Totals.{valueOf}

@@ -1,4 +1,5 @@
--- `certificates::of_ledger` meets its contract.
+-- `certificates::of_ledger` meets its contract: the summary is that of the ledger's own snapshot, which balances; the head is rotated where the totals fit,
+-- and the rest of the room stays (Taking).
 use mathlib.Core.Path.{_≡_, refl, _∙_, ap}
 use mathlib.Core.List.{List}
 use Prim.Native.Nat.{ℕ}

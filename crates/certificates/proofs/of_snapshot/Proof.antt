@@ -1,4 +1,4 @@
--- `certificates::of_snapshot` meets its contract.
+-- `certificates::of_snapshot` meets its contract: each number is that of the snapshot, and `certify` makes the certificate of them.
 use borrow.Author.Needs.{needs}
 use Rattle.certificates.proofs.of_snapshot.Statement.{statement}
 use Rattle.certificates.proofs.of_snapshot.Tie as tie

@@ -1,4 +1,4 @@
--- `certificates::of_supplied` meets its contract: 19, then the certificate.
+-- `certificates::of_supplied` meets its contract: a long name is 19, and else the names are short, which is what `of_snapshot` asks.
 use mathlib.Core.Path.{sym, ap, _∙_}
 use borrow.Author.Needs.{needs}
 use Rattle.rules.specs.SnapshotsMigrationCertificates.{replyOr, certificate, certificateOfSnapshot}

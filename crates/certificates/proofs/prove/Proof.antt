@@ -1,4 +1,4 @@
--- `certificates::prove` meets its contract.
+-- `certificates::prove` meets its contract: the summary is that of the ledger's own snapshot, and the stamped head is put before the totals decide (Taking).
 use mathlib.Core.Path.{refl, ap}
 use mathlib.Core.List.{List}
 use Prim.Native.Nat.{ℕ}

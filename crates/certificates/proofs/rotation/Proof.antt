@@ -1,4 +1,5 @@
--- `certificates::rotation` meets its contract.
+-- `certificates::rotation` meets its contract: totals that do not fit leave the head; else the total is a natural number, so one of the two signs is
+-- impossible.
 use mathlib.Core.Path.{sym, _∙_}
 use borrow.Author.Needs.{needs}
 use Rattle.certificates.proofs.Certifying.{told-outside, told-fit, not-rotated, never-negative, rotated}

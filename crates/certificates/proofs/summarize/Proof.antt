@@ -1,4 +1,4 @@
--- `certificates::summarize` meets its contract.
+-- `certificates::summarize` meets its contract: the stamp tells whether a snapshot can be taken, and the parts are equal one by one (Summarizing).
 use borrow.Author.Needs.{needs}
 use Rattle.certificates.proofs.Summarizing.{rows-counted, live-counted, next-id-small, exhausted, taken}
 use Rattle.certificates.proofs.summarize.Statement.{statement}

@@ -1,4 +1,4 @@
--- `filling::capped` meets its contract.
+-- `filling::capped` meets its contract: a sum above M is no sum to `numbers::plus`, and M is then the smaller.
 use mathlib.Core.Path.{sym, _∙_}
 use native.Mathlib.Omega.{arith}
 use borrow.Author.Needs.{needs}

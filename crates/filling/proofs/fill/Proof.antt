@@ -1,4 +1,5 @@
--- `filling::fill` meets its contract.
+-- `filling::fill` meets its contract: the room is made anew, so it is a fresh ledger's; the rows are put into it; and the head written last completes the
+-- ledger restored (Renewing).
 use mathlib.Core.Path.{_∙_, ap}
 use borrow.Author.Needs.{needs}
 use Rattle.rules.specs.RoomAndSoundLedger.{fenceOf, fresh}

@@ -1,4 +1,4 @@
--- `filling::natural` meets its contract.
+-- `filling::natural` meets its contract: an amount that is not negative is held as the number it is, so the cast keeps it.
 use mathlib.Core.Path.{_≡_, sym, _∙_, ap, subst}
 use native.Mathlib.Omega.{arith}
 use lib.Dec.{T}

@@ -1,4 +1,4 @@
--- `filling::put_row` meets its contract.
+-- `filling::put_row` meets its contract: the seat is not vacant and has room, so of what `seats::write_seat` may do only putting it is left.
 use mathlib.Core.Path.{_∙_, ap}
 use mathlib.Core.Bool.{cond}
 use borrow.Author.Needs.{needs}

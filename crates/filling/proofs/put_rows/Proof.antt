@@ -1,4 +1,5 @@
--- `filling::put_rows` meets its contract: the room holds the rows passed, and the baseline is their committed total or M.
+-- `filling::put_rows` meets its contract. The invariant: the room holds the rows passed, and the baseline is their committed total or M; a turn is one row
+-- more (Putting), said for whichever ledger and snapshot the caller speaks of.
 use mathlib.Core.Path.{_≡_, refl, sym, _∙_, ap, subst}
 use Prim.Native.Nat.{_+_, _-_, _≤_, min}
 use native.Mathlib.Omega.{arith}

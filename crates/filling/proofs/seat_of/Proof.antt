@@ -1,4 +1,4 @@
--- `filling::seat_of` meets its contract.
+-- `filling::seat_of` meets its contract: each amount by `natural`, and the seat field by field.
 use mathlib.Core.Path.{_∙_, ap}
 use borrow.Author.Needs.{needs}
 use Rattle.rules.specs.AccountRules.{natural}

@@ -1,4 +1,5 @@
--- `migration::migrate` meets its contract: a refusal leaves the output as it was, and else the migrated snapshot stands at its front.
+-- `migration::migrate` meets its contract: a refusal leaves the output as it was (Untouched), and else the migrated snapshot stands at its front, as long as
+-- the one supplied (MigratedBytes).
 use mathlib.Core.Path.{_≡_, sym, ap, _∙_}
 use mathlib.Core.List.{List, [], _∷_, _++_}
 use mathlib.Core.Option.{Option, none, some}

@@ -1,4 +1,5 @@
--- `migration::refusal` meets its contract: each check in its order, and the validation between the fence and the room.
+-- `migration::refusal` meets its contract: each check in its order, and the validation between the fence and the room; each return is one law of Refusing,
+-- and only `Done` tells that fence and room are good.
 use mathlib.Core.Path.{_≡_, refl, sym, ap, subst, _∙_}
 use mathlib.Core.Bool.{false}
 use mathlib.Core.List.{List, []}

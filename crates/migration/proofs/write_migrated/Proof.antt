@@ -1,4 +1,4 @@
--- `migration::write_migrated` meets its contract. The invariant: the bytes passed are copied over the output.
+-- `migration::write_migrated` meets its contract. The invariant: the bytes passed are copied over the output; the version is then put over the first eight.
 use mathlib.Core.Path.{_≡_, refl, ap, _∙_}
 use mathlib.Core.List.{_++_}
 use Prim.Native.Nat.{_-_, _≤_}

@@ -1,4 +1,4 @@
--- `restoring::recovery_restore` meets its contract.
+-- `restoring::recovery_restore` meets its contract: as `restore`, by the other form (Restoring).
 use borrow.Author.Needs.{needs}
 use Rattle.rules.specs.SnapshotsMigrationCertificates.{recoveryVersion, recoveryRestore}
 use Rattle.restoring.proofs.Restoring.{recovery-keeps, form-keeps, by-its-form}

@@ -1,4 +1,4 @@
--- `restoring::recovery_version` meets its contract: the tag is asked before the fence.
+-- `restoring::recovery_version` meets its contract: the tag is asked before the fence, and each return is one law of Versions.
 use mathlib.Core.Path.{_≡_, sym, _∙_}
 use mathlib.Core.Bool.{true}
 use borrow.Author.Needs.{needs}

@@ -1,4 +1,5 @@
--- `restoring::refusal` meets its contract: long names, the version, the validation, and the room for names, in this order.
+-- `restoring::refusal` meets its contract: long names, the version, the validation, and the room for names, in this order; each check that passes leaves the
+-- rule's checks after it (Deciding).
 use mathlib.Core.Path.{_≡_, sym, ap, _∙_}
 use mathlib.Core.Bool.{false}
 use mathlib.Core.List.{[]}

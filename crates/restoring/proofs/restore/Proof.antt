@@ -1,4 +1,4 @@
--- `restoring::restore` meets its contract.
+-- `restoring::restore` meets its contract: what `restore_by` promises of what was said of the version, read at the version of the snapshot (Restoring).
 use borrow.Author.Needs.{needs}
 use Rattle.rules.specs.SnapshotsMigrationCertificates.{restoreVersion, restore}
 use Rattle.restoring.proofs.Restoring.{restore-keeps, form-keeps, by-its-form}

@@ -1,4 +1,5 @@
--- `restoring::restore_by` meets its contract: checked, and then filled.
+-- `restoring::restore_by` meets its contract: what was checked is the rule's refusal; a verdict that is not `Done` leaves the room, and else the room filled
+-- is the ledger restored, sound by what the form keeps (Restoring).
 use mathlib.Core.List.{[]}
 use borrow.Author.Needs.{needs}
 use Rattle.validation.specs.Judgement.{refusalOf}

@@ -1,4 +1,4 @@
--- `restoring::restore_version` meets its contract: what is carried is the version, or M.
+-- `restoring::restore_version` meets its contract: what is carried is the version, at most M where it has no tag, or M, which a tag is above (Versions).
 use mathlib.Core.Path.{_≡_, sym, ap, _∙_}
 use mathlib.Core.Bool.{true, false}
 use mathlib.Core.List.{[]}

@@ -1,4 +1,4 @@
--- `snapshot_reader::active` meets its contract: it is in the head of the bytes.
+-- `snapshot_reader::active` meets its contract: bytes that are a snapshot have a whole head, and its second number is the count (Header).
 use mathlib.Core.Path.{_∙_, sym}
 use native.Mathlib.Omega.{arith}
 use borrow.Author.Needs.{needs}

@@ -1,4 +1,4 @@
--- `snapshot_reader::count` meets its contract: it is in the head of the bytes.
+-- `snapshot_reader::count` meets its contract: the head's third number is how many rows follow (Header).
 use mathlib.Core.Path.{_∙_, sym}
 use native.Mathlib.Omega.{arith}
 use borrow.Author.Needs.{needs}

@@ -1,4 +1,4 @@
--- `snapshot_reader::has_long_name` meets its contract. The invariant: the rows to come decide.
+-- `snapshot_reader::has_long_name` meets its contract. The invariant: the rows to come decide; a row's first byte is its name's length, so it decides a turn.
 use mathlib.Core.Path.{_≡_, refl, sym, _∙_}
 use mathlib.Core.Bool.{true, false}
 use Prim.Native.Nat.{_-_}

@@ -1,4 +1,4 @@
--- `snapshot_reader::name_end` meets its contract: the byte before a name is its length.
+-- `snapshot_reader::name_end` meets its contract: a row's first byte is its name's length, and that the row stands there keeps the sums in range (Rows).
 use native.Mathlib.Omega.{arith}
 use borrow.Author.Needs.{needs}
 use Rattle.snapshot_reader.proofs.Rows.{FirstRow, first-row, ends-name}

@@ -1,4 +1,4 @@
--- `snapshot_reader::read_row` meets its contract: the four amounts stand after the name, 8 bytes each.
+-- `snapshot_reader::read_row` meets its contract: the four amounts stand after the name, 8 bytes each; each lent part is the one that the rules read (Rows).
 use mathlib.Core.Path.{_≡_, refl, ap, _∙_}
 use mathlib.Core.List.{List}
 use Prim.Native.Nat.{ℕ, _+_, _-_, _≤_}

@@ -1,4 +1,5 @@
--- `snapshot_reader::row_end` meets its contract: a row is 33 bytes and its name's.
+-- `snapshot_reader::row_end` meets its contract: too few bytes for a shortest row and the name are none for the rules, and else they take just these
+-- (RowBytes).
 use mathlib.Core.Path.{refl, sym, subst}
 use mathlib.Core.List.{List}
 use Prim.Native.Nat.{ℕ, _+_, _-_, _≤_, _<_}

@@ -1,4 +1,4 @@
--- `snapshot_reader::version` meets its contract: it is in the head of the bytes.
+-- `snapshot_reader::version` meets its contract: the head's first number is the version (Header).
 use mathlib.Core.Path.{_∙_, sym}
 use native.Mathlib.Omega.{arith}
 use borrow.Author.Needs.{needs}

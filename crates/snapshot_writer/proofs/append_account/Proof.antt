@@ -1,4 +1,4 @@
--- `snapshot_writer::append_account` meets its contract.
+-- `snapshot_writer::append_account` meets its contract: without an account no row is added, and with one it is `append_row`'s.
 use mathlib.Core.List.{append-nil}
 use borrow.Author.Needs.{needs}
 use borrow.Author.Tests.{eq-eqb, ne-eqb}

@@ -1,4 +1,4 @@
--- `snapshot_writer::append_row` meets its contract: the row is put behind the others, and counted.
+-- `snapshot_writer::append_row` meets its contract: the lent part is as long as the row, which is put behind the others (Appending), and counted.
 use mathlib.Core.Path.{_≡_, _∙_}
 use Prim.Native.Nat.{_+_, _-_}
 use native.Mathlib.Omega.{arith}

@@ -1,4 +1,5 @@
--- `snapshot_writer::has_room` meets its contract.
+-- `snapshot_writer::has_room` meets its contract: no row is longer than the longest, so room for that many of those is room enough; else the rows are
+-- measured.
 use mathlib.Core.Path.{_≡_, ap}
 use Prim.Native.Nat.{_≤_}
 use native.Mathlib.Omega.{arith}

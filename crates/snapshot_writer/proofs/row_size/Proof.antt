@@ -1,4 +1,4 @@
--- `snapshot_writer::row_size` meets its contract.
+-- `snapshot_writer::row_size` meets its contract: the test of the account is the rule's.
 use borrow.Author.Needs.{needs}
 use borrow.Author.Tests.{eq-eqb, ne-eqb}
 use Rattle.snapshot_writer.proofs.row_size.Statement.{statement}

@@ -1,4 +1,5 @@
--- `snapshot_writer::rows_size` meets its contract. The invariant: the size is that of the rows of the places passed.
+-- `snapshot_writer::rows_size` meets its contract. The invariant: the size is that of the rows of the places passed, which no sum lets overflow: each is at
+-- most the longest.
 use mathlib.Core.Path.{_≡_, sym, _∙_, ap}
 use mathlib.Core.List.{flatMap}
 use Prim.Native.Nat.{_+_, _-_, _≤_, _<_}

@@ -1,4 +1,5 @@
--- `snapshot_writer::snapshot` meets its contract.
+-- `snapshot_writer::snapshot` meets its contract: the head is stamped, the output measured, rows and header written, in this order; each return is one law of
+-- Answering, and what was measured is what writing asks.
 use mathlib.Core.Path.{_≡_, refl, sym, ap, _∙_}
 use mathlib.Core.Bool.{false}
 use mathlib.Core.List.{List}

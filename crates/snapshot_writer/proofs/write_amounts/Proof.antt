@@ -1,4 +1,4 @@
--- `snapshot_writer::write_amounts` meets its contract: the four amounts, one after the other, fill the part.
+-- `snapshot_writer::write_amounts` meets its contract: four fields put one after the other are written as one list, and it fills the part (records, Fields).
 use mathlib.Core.Path.{_≡_, refl, _∙_}
 use mathlib.Core.List.{List, [], _∷_, append-assoc, append-nil}
 use Prim.Native.Nat.{ℕ}

@@ -1,4 +1,5 @@
--- `snapshot_writer::write_header` meets its contract: its numbers, one after the other, from the start of the output.
+-- `snapshot_writer::write_header` meets its contract: its numbers, put one after the other, are written as one list at the start of the output (records,
+-- Fields).
 use mathlib.Core.Path.{_≡_, refl, _∙_}
 use mathlib.Core.List.{[], _∷_, append-assoc, append-nil}
 use native.Mathlib.Omega.{arith}

@@ -1,4 +1,4 @@
--- `snapshot_writer::write_row` meets its contract: the name, and the amounts behind it.
+-- `snapshot_writer::write_row` meets its contract: the name fills the first half of the part and the amounts the other; together they spell the row.
 use mathlib.Core.Path.{_≡_, sym, ap₂, _∙_}
 use mathlib.Core.List.{_++_, append-assoc}
 use Prim.Native.Nat.{_+_}

@@ -1,4 +1,5 @@
--- `snapshot_writer::write_rows` meets its contract. The invariant: the rows of the places passed are written.
+-- `snapshot_writer::write_rows` meets its contract. The invariant: the rows of the places passed are written. What the requirement says of all rows bounds
+-- those passed (PlaceRows).
 use mathlib.Core.Path.{_≡_, refl, sym, _∙_, ap, subst}
 use mathlib.Core.List.{List, _++_}
 use Prim.Native.Nat.{_+_, _-_, _≤_, _<_}

@@ -1,4 +1,5 @@
--- `validation::balance_of` meets its contract: the wide sum is the exact one, and code compares amounts by their bits.
+-- `validation::balance_of` meets its contract: the total of two words is the exact sum, fitted or not, and code compares amounts by their bits, which are
+-- equal just where the amounts are. Each return is one law of Balancing.
 use mathlib.Core.Path.{_≡_, refl, sym, _∙_, ap}
 use mathlib.Core.Logic.{_≢_}
 use mathlib.Core.Bool.{true, false}

@@ -1,4 +1,5 @@
--- `validation::conservation` meets its contract. The invariant: the rows to come decide.
+-- `validation::conservation` meets its contract: a pass that judges (Passing), with the conservation of a row as its judgement. The invariant: the rows to
+-- come decide.
 use Prim.Native.Nat.{_-_}
 use native.Mathlib.Omega.{arith}
 use borrow.Author.Needs.{needs}

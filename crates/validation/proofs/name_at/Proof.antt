@@ -1,4 +1,5 @@
--- `validation::name_at` meets its contract: the part between the length and the amounts is the name.
+-- `validation::name_at` meets its contract: the part between the length and the amounts is the name, short since no name of the snapshot is long, so storing
+-- it and spelling it gives it back.
 use mathlib.Core.Path.{ap, sym, subst, _∙_}
 use Prim.Native.Nat.{_≤_}
 use native.Mathlib.Omega.{arith}

@@ -1,4 +1,4 @@
--- `validation::row_conservation` meets its contract: what is read is the row.
+-- `validation::row_conservation` meets its contract: what is read is the row, and `balance_of` judges its amounts.
 use mathlib.Core.Path.{ap, _∙_}
 use borrow.Author.Needs.{needs}
 use Rattle.rules.specs.SnapshotsMigrationCertificates.{rowConservation}

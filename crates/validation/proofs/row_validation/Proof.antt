@@ -1,4 +1,5 @@
--- `validation::row_validation` meets its contract: its checks are those of the rules, in their order.
+-- `validation::row_validation` meets its contract: its checks are those of the rules, in their order; each return is one law of Validating, from what the
+-- tests before it left.
 use mathlib.Core.Path.{_≡_, sym, ap, _∙_}
 use mathlib.Core.Logic.{_≢_}
 use mathlib.Core.Bool.{true, false}

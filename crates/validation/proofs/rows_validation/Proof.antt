@@ -1,4 +1,5 @@
--- `validation::rows_validation` meets its contract. The invariant: the rows to come decide, with the names of those passed.
+-- `validation::rows_validation` meets its contract: a pass that judges (Passing), with the validation of a row as its judgement. The invariant: the rows to
+-- come decide, with the names of those passed.
 use Prim.Native.Nat.{_-_}
 use native.Mathlib.Omega.{arith}
 use borrow.Author.Needs.{needs}

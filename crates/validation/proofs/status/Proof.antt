@@ -1,4 +1,4 @@
--- `validation::status` meets its contract: 19, then conservation.
+-- `validation::status` meets its contract: a long name is 19, and else the names are short, which is what `conservation` asks.
 use mathlib.Core.Path.{sym, ap, _∙_}
 use mathlib.Core.List.{[]}
 use borrow.Author.Needs.{needs}

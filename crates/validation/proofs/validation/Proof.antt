@@ -1,4 +1,5 @@
--- `validation::validation` meets its contract: the active count, then the rows, then their conservation.
+-- `validation::validation` meets its contract: the active count, then the rows, then their conservation; a verdict that is not `Done` decides, and `Done`
+-- hands on (Deciding).
 use mathlib.Core.Path.{_≡_, sym, ap, _∙_}
 use mathlib.Core.Option.{some}
 use Prim.Native.Nat.{_≤_, _<_}
