@@ -1,4 +1,5 @@
-// Numbers as frames and snapshots write them: big-endian, amounts in two's complement. And a version's tag and fence, by mask.
+// Numbers as frames and snapshots write them: big-endian in eight or two bytes, amounts in two's complement. And a version's tag and fence, by mask.
+// specs/ has the sizes of a snapshot's parts, for the crates that read and write one.
 use numbers::Microcents;
 ghost use Prim.Native.Nat.{_≤_};
 ghost use lib.ListN.{length};

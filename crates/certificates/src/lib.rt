@@ -1,4 +1,5 @@
-// Certificates, and the conservation proof: over a supplied snapshot already known to be one, and over a ledger already known to be sound.
+// Certificates, and the conservation proof: over a supplied snapshot already known to be one, and over a ledger already known to be sound. Of the ledger no
+// snapshot is written: its totals are added up over the places, and only its head changes.
 use heads::Rotated;
 use heads::Stamped;
 use numbers::Microcents;

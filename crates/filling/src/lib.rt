@@ -1,4 +1,5 @@
-// A snapshot that has passed every check, put in the place of all that a room holds. Live reservations and limits are cleared with the rest.
+// A snapshot that has passed every check, put in the place of all that a room holds: the room is made anew at its own sizes, so live reservations and limits
+// are cleared with the rest, the rows are put into it, and the head is written last.
 use moves::Seat;
 use numbers::Microcents;
 use numbers::Sum;

@@ -1,4 +1,5 @@
-// Migration of a supplied snapshot that is not aware of recovery: the same snapshot with a version that carries a fence. No ledger is taken.
+// Migration of a supplied snapshot that is not aware of recovery: the same snapshot with a version that carries a fence. No ledger is taken. The bytes are
+// copied as they stand, and only those of the version are new.
 use validation::Judged;
 use validation::Verdict;
 ghost use mathlib.Core.Path.{_≡_};

@@ -1,4 +1,5 @@
-// Restore and recovery restore into a ledger already known to be sound, of bytes already known to be a snapshot: all of it, or a refusal and nothing.
+// Restore and recovery restore into a ledger already known to be sound, of bytes already known to be a snapshot: all of it, or a refusal and nothing. The two
+// differ in what they say of the version alone; every check is made before the first byte of the room is written.
 use validation::Judged;
 use validation::Verdict;
 ghost use mathlib.Core.Path.{_≡_};

@@ -1,4 +1,5 @@
-// A snapshot of a ledger already known to be sound, written into lent output.
+// A snapshot of a ledger already known to be sound, written into lent output: the rows of the accounts one behind the other, and then the header before
+// them, since it counts them. Nothing is written unless all of it has room, and what stands past it stays.
 use heads::Stamped;
 use records::Place;
 ghost use mathlib.Core.Path.{_≡_};
@@ -21,9 +22,9 @@ pub enum Snapshotted {
 }
 
 // How many rows are written, and where they end.
-pub struct Extent {
-    pub rows: u64,
-    pub end: usize,
+struct Extent {
+    rows: u64,
+    end: usize,
 }
 
 fn write_amounts(part: &mut [u8], place: Place)
@@ -47,7 +48,7 @@ fn write_row(part: &mut [u8], place: Place)
 }
 
 // One row more, behind those written.
-pub fn append_row(output: &mut [u8], extent: Extent, place: Place) -> Extent
+fn append_row(output: &mut [u8], extent: Extent, place: Place) -> Extent
     requires room { ⌜ extent .end + (shortestRow + place .name .length) ≤ length (now output) ⌝ }
     requires short { ⌜ place .name .length ≤ longestName ⌝ }
     requires few { ⌜ extent .rows < mostRows ⌝ }
@@ -63,7 +64,7 @@ pub fn append_row(output: &mut [u8], extent: Extent, place: Place) -> Extent
     }
 }
 
-pub fn write_header(output: &mut [u8], version: u64, active: u64, rows: u64)
+fn write_header(output: &mut [u8], version: u64, active: u64, rows: u64)
     requires { ⌜ snapshotHeader ≤ length (now output) ⌝ }
     ensures { λ _. ⌜ now (output .exit) ≡ headerBytes version active rows ++ drop snapshotHeader (now (output .entry)) ⌝ }
 {

@@ -1,4 +1,5 @@
 // Exact totals of amounts, in the place of the Rust's 128 bits: two words, of which the high one has the sign (document 01, "The shape of some places").
+// An amount is added or taken off, and a total is fitted into an amount again where it is one.
 use numbers::Microcents;
 ghost use Prim.Native.Nat.{_+_, _^_, _<_};
 ghost use mathlib.Core.Path.{_≡_};

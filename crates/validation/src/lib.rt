@@ -1,4 +1,5 @@
-// Judging a supplied snapshot: conservation row by row, and the checks of a restore or a migration in their order.
+// Judging a supplied snapshot, where it stands: conservation row by row, and the checks that a restore and a migration share, in their order. The first bad row
+// decides, so nothing is kept of a row that passed. Names longer than a place holds are ruled out before.
 use names::Name;
 use numbers::Microcents;
 use totals::Fitted;
