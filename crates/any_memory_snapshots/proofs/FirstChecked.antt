@@ -2,10 +2,9 @@
 use mathlib.Core.Path.{_≡_, refl, sym, ap, subst, _∙_}
 use mathlib.Core.Logic.{inl, inr}
 use mathlib.Core.List.{List, []}
-use mathlib.Core.Option.{some}
 use Prim.Native.Nat.{ℕ}
 use Rattle.rules.specs.RoomAndSoundLedger.{Ledger}
-use Rattle.rules.specs.AnswerNumbers.{NameTooLong, Reply, Outcome}
+use Rattle.rules.specs.AnswerNumbers.{Reply, Outcome}
 use Rattle.rules.specs.SnapshotsMigrationCertificates.{Snapshot, snapshotOfBytes, replyOr}
 use Rattle.rules.proofs.Tests.{by-option, none-some}
 use Rattle.snapshot_reader.specs.Standing.{IsSnapshot}
@@ -13,13 +12,10 @@ use Rattle.validation.specs.declared.Verdict.{Verdict}
 use Rattle.validation.specs.declared.Verdict.the-variants as verdict
 use Rattle.validation.specs.declared.Judged.{Judged}
 use Rattle.validation.specs.Judgement.{refusalOf, nameless, judgedReply}
-use Rattle.validation.proofs.Deciding.{NotDone, refuses, passes-on}
+use Rattle.validation.proofs.Deciding.{NotDone, refusal-given}
 use Rattle.room.specs.Room.{SoundRoom, Answers}
 use Rattle.restoring.specs.Forms.{Restores}
 use Rattle.any_memory_snapshots.specs.Supplied.{AnswersSnapshot, SoundOr24, FirstCheck}
-
-not-done : (v : Verdict) → NotDone v → v ≡ verdict.Done → ⊥
-not-done v other done = none-some (sym (ap (refusalOf []) done) ∙ refuses [] v (some NameTooLong) other ∙ passes-on [] v (some NameTooLong) done)
 
 module _ {bytes before : List ℕ} {v : Verdict} (checked : FirstCheck bytes before v) where
   -- nothing is answered but 23 or 24, and nothing changes
@@ -30,7 +26,7 @@ module _ {bytes before : List ℕ} {v : Verdict} (checked : FirstCheck bytes bef
       (λ s read. of-room s (checked .read (record { snapshot = s; is-read = read })))
     where
       of-room : (s : Snapshot) → SoundOr24 before v → Answers (λ L. f L s) before (judgedReply j) before
-      of-room s (inl (done, _)) = absurd (not-done v other done)
+      of-room s (inl (done, _)) = absurd (refusal-given [] v other (ap (refusalOf []) done))
       of-room s (inr (unsound, no-room)) = record {
         sound-room = λ L is-room. absurd (no-room (record { ledger = L; is-room = is-room }));
         other = λ _. (ap judgedReply (is ∙ ap nameless unsound), refl);

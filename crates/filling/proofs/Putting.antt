@@ -6,7 +6,7 @@ use Prim.Native.Nat.{ℕ, _+_, _-_, _≤_, min}
 use native.Mathlib.Omega.{arith}
 use borrow.Author.Tests.{lt-ltb, le-ltb}
 use lib.IntN.{ℤ, pos}
-use lib.ListN.{length, take, drop}
+use lib.ListN.{length}
 use lib.Seq.{append-snoc}
 use Rattle.rules.specs.Lists.{sum, All}
 use Rattle.rules.specs.RoomAndSoundLedger.{M, Name, IsByte, Ledger, isVacant, withPlaces, committedTotal, fresh, longestName}
@@ -20,7 +20,7 @@ use Rattle.moves.specs.Moves.{meaning, keptSeat, SeatSound}
 use Rattle.moves.specs.declared.Seat.{Seat}
 use Rattle.room.specs.Room.{contentsIn, IsRoom, SoundRoom, OfRoom}
 use Rattle.room.proofs.Decoding.{one-ledger}
-use Rattle.snapshot_reader.specs.Standing.{OfSnapshot, EndsName}
+use Rattle.snapshot_reader.specs.Standing.{OfSnapshot}
 use Rattle.filling.specs.Filling.{Takes, Holds, NotNegative, seatOfRow, PutsRows}
 use Rattle.filling.proofs.Placing.{Pass, restored-more, not-held, capped-total, rows-sound, row-fits, row-short, row-restorable, row-unseen, room-left}
 
@@ -107,7 +107,3 @@ module _ {t r : ℕ} {room : List ℕ} {baseline : ℕ} {earlier : List Row} {ro
           };
           pass = pass;
         }
-
--- the part of the bytes that is the row's name
-pub name-part : {bs : List ℕ} {at : ℕ} {row : Row} {later : List Row} {end : ℕ} → EndsName bs at row later end → take (end - (at + 1)) (drop (at + 1) bs) ≡ row .name
-name-part {bs} {at} {row} {later} {end} ends = let size : end - (at + 1) ≡ length (row .name) = omega (arith, ends .size) in ap (λ n. take n (drop (at + 1) bs)) size ∙ ends .name

@@ -1,17 +1,17 @@
 -- A refusal carries no snapshot (Refusals), and so leaves the output room as it was; a verdict that is not `Done` is one.
 use mathlib.Core.Path.{_≡_, refl, ap, _∙_}
-use mathlib.Core.List.{List, _++_}
+use mathlib.Core.List.{List, _++_, [], _∷_}
 use mathlib.Core.Option.{Option, none, some}
 use Prim.Native.Nat.{ℕ}
 use lib.ListN.{length, drop}
-use Rattle.rules.specs.AnswerNumbers.{Reply, Refusal, BadFrame}
+use Rattle.rules.specs.AnswerNumbers.{Reply, Refusal}
 use Rattle.rules.specs.RoomAndSoundLedger.{Name}
-use Rattle.rules.specs.SnapshotsMigrationCertificates.{outputAfter, andThen, replyOr}
-use Rattle.rules.proofs.Tests.{none-some}
+use Rattle.rules.specs.SnapshotsMigrationCertificates.{outputAfter, replyOr}
 use Rattle.rules.proofs.Refusals.{refusal-hands-out-nothing}
 use Rattle.validation.specs.declared.Verdict.{Verdict}
 use Rattle.validation.specs.Judgement.{refusalOf}
-use Rattle.validation.proofs.Deciding.{NotDone, refuses}
+use Rattle.validation.proofs.Deciding.{NotDone, refuses, refusal-given}
+use mathlib.Core.Logic.{_≢_}
 
 -- ── a verdict that is not `Done` refuses ───────────────────────────────────────────────────────
 
@@ -19,14 +19,12 @@ pub record Refused (o : Option Refusal) : Type 0 where
   pub refusal : Refusal
   pub is : o ≡ some refusal
 
--- what decides whatever is checked later
-deciding : (o : Option Refusal) → ((later : Option Refusal) → o ≡ andThen o later) → Refused o
-unfolding andThen
-deciding none h = none-some (h (some BadFrame))
-deciding (some e) h = record { refusal = e; is = refl }
+some-refusal : (o : Option Refusal) → o ≢ none → Refused o
+some-refusal none h = absurd (h refl)
+some-refusal (some e) h = record { refusal = e; is = refl }
 
 pub is-refused : (a : Name) (v : Verdict) → NotDone v → Refused (refusalOf a v)
-is-refused a v h = deciding (refusalOf a v) (λ later. refuses a v later h)
+is-refused a v h = some-refusal (refusalOf a v) (refusal-given a v h)
 
 -- ── the answer and the output of a refusal ─────────────────────────────────────────────────────
 

@@ -8,23 +8,21 @@ use borrow.Author.Tests.{ltb-false}
 use lib.ListN.{length, getD}
 use mir.Syntax.{w8}
 use mir.Val.{Fits}
-use Rattle.rules.specs.RoomAndSoundLedger.{Name, Ledger, Sound}
-use Rattle.rules.specs.AnswerNumbers.{Refusal, Reply, NameTooLong, sound, done, onLent}
-use Rattle.rules.specs.SnapshotsMigrationCertificates.{Snapshot, andThen, validation, restored, orElse, restoreVersion, recoveryVersion, restoreRefusal, restore, recoveryRestore, replyOr}
+use Rattle.rules.specs.RoomAndSoundLedger.{Ledger, Sound}
+use Rattle.rules.specs.AnswerNumbers.{Refusal, Reply, sound, done, onLent}
+use Rattle.rules.specs.SnapshotsMigrationCertificates.{Snapshot, validation, restored, orElse, restoreVersion, recoveryVersion, restoreRefusal, restore, recoveryRestore, replyOr}
 use Rattle.rules.specs.Frames.{restoreFrom, recoverFrom, answer}
 use Rattle.rules.specs.Domain.{SnapshotFits}
-use Rattle.rules.proofs.Tests.{none-some}
 use Rattle.rules.proofs.Checks.{both-pass, check-passes}
 use Rattle.rules.proofs.SnapshotBytes.{snapshot-only}
 use Rattle.rules.proofs.SnapshotSoundness.{answer-sound}
 use Rattle.names.specs.Names.{spelled}
 use Rattle.numbers.proofs.Bytes.{all-bytes}
 use Rattle.snapshot_reader.specs.Standing.{IsSnapshot, OfSnapshot}
-use Rattle.validation.specs.declared.Verdict.{Verdict}
 use Rattle.validation.specs.declared.Verdict.the-variants as verdict
 use Rattle.validation.specs.declared.Judged.{Judged}
 use Rattle.validation.specs.Judgement.{refusalOf, refusalIn, judgedReply}
-use Rattle.validation.proofs.Deciding.{NotDone, refuses}
+use Rattle.validation.proofs.Deciding.{NotDone, refusal-given}
 use Rattle.records.specs.Records.{sizesOf}
 use Rattle.records.specs.declared.Sizes.{Sizes}
 use Rattle.room.specs.Room.{IsRoom, OfRoom, Performed}
@@ -33,10 +31,6 @@ use Rattle.filling.specs.Filling.{Takes, Holds}
 use Rattle.restoring.specs.Forms.{restoreBy, Restores, Keeps}
 
 -- ── what was checked decides the answer and the ledger ─────────────────────────────────────────
-
-refusal-given : (a : Name) (v : Verdict) → NotDone v → refusalOf a v ≢ none
-unfolding andThen
-refusal-given a v h e = none-some (sym e ∙ refuses a v (some NameTooLong) h ∙ ap (λ o. andThen o (some NameTooLong)) e)
 
 module _ (L after : Ledger) where
   same-reply : (o : Option Refusal) → replyOr o (done []) ≡ orElse o L after .reply

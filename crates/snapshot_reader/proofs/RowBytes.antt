@@ -101,18 +101,18 @@ row-short bs h = row-takes bs .short (omega arith) h
 
 -- ── a row from some byte on ────────────────────────────────────────────────────────────────────
 
+pub front-byte : (at : ℕ) (bs : List ℕ) → getD (drop at bs) 0 0 ≡ getD bs at 0
+front-byte at bs = getD-drop at bs 0 0 ∙ ap (λ k. getD bs k 0) (omega arith)
+
 module _ (bs : List ℕ) (at : ℕ) where
   -- the bytes of the row, by its name's length
   abbrev pub sizeAt : ℕ
   sizeAt = shortestRow + getD bs at 0
 
-  size-front : getD (drop at bs) 0 0 ≡ getD bs at 0
-  size-front = getD-drop at bs 0 0 ∙ ap (λ k. getD bs k 0) (omega arith)
-
   pub no-row-at : at ≤ length bs → length bs - at < sizeAt → readRow (drop at bs) ≡ none
-  no-row-at h short = row-short (drop at bs) (omega (arith, size-front, length-drop at bs))
+  no-row-at h short = row-short (drop at bs) (omega (arith, front-byte at bs, length-drop at bs))
 
   pub row-at : at ≤ length bs → sizeAt ≤ length bs - at → readRow (drop at bs) ≡ some (after (rowAtFront (drop at bs)) (drop (at + sizeAt) bs))
   row-at h long =
-      row-long (drop at bs) (omega (arith, size-front, length-drop at bs))
-      ∙ ap (λ rest. some (after (rowAtFront (drop at bs)) rest)) (ap (λ n. drop (shortestRow + n) (drop at bs)) size-front ∙ drop-drop sizeAt at bs)
+      row-long (drop at bs) (omega (arith, front-byte at bs, length-drop at bs))
+      ∙ ap (λ rest. some (after (rowAtFront (drop at bs)) rest)) (ap (λ n. drop (shortestRow + n) (drop at bs)) (front-byte at bs) ∙ drop-drop sizeAt at bs)

@@ -9,7 +9,7 @@ use native.Mathlib.Omega.{arith}
 use borrow.Author.Tests.{ltb-false, ltb-true}
 use lib.Dec.{ltb}
 use lib.ListN.{length, getD, take, drop, length-drop}
-use lib.Seq.{drop-drop, getD-drop, length-take-le, append-snoc}
+use lib.Seq.{drop-drop, length-take-le, append-snoc}
 use Rattle.rules.specs.Lists.{sum}
 use Rattle.rules.specs.SnapshotsMigrationCertificates.{Row, Reading, goOn, reads, readRow, readRows, numberOf, signed, hasLongName}
 use Rattle.rules.proofs.Tests.{by-bool, by-option, none-some}
@@ -19,12 +19,9 @@ use Rattle.rules.proofs.SnapshotBytes.{rowLength}
 use Rattle.rules.specs.RoomAndSoundLedger.{longestName}
 use Rattle.big_endian.specs.Layout.{rowAmounts, shortestRow}
 use Rattle.snapshot_reader.specs.Standing.{RowsFrom, RowStands, OfRow, ShortNames, RowOf, Passed, EndsName}
-use Rattle.snapshot_reader.proofs.RowBytes.{amountAt, rowAtFront, row-short, row-long}
+use Rattle.snapshot_reader.proofs.RowBytes.{amountAt, rowAtFront, row-short, row-long, front-byte}
 
 -- ── the row that starts at a byte ──────────────────────────────────────────────────────────────
-
-front-byte : (at : ℕ) (bs : List ℕ) → getD (drop at bs) 0 0 ≡ getD bs at 0
-front-byte at bs = let same : at + 0 ≡ at = omega arith in getD-drop at bs 0 0 ∙ ap (λ k. getD bs k 0) same
 
 -- rows read to the last byte
 abbrev toTheEnd : List Row → Option (Reading (List Row))
@@ -84,6 +81,12 @@ first-row {bs} {at} {row} {later} h =
       is = sym (ap (λ r. r .value) both);
       next = record { within = omega arith; read = ap (readRows (length later)) rest ∙ p .others };
     }
+
+-- the part of the bytes that is its name
+pub part-is-name : {bs : List ℕ} {at : ℕ} {row : Row} {later : List Row} {end : ℕ} → EndsName bs at row later end → take (end - (at + 1)) (drop (at + 1) bs) ≡ row .name
+part-is-name {bs} {at} {row} {later} {end} ends =
+    let size : end - (at + 1) ≡ length (row .name) = omega (arith, ends .size) in
+    ap (λ n. take n (drop (at + 1) bs)) size ∙ ends .name
 
 -- where its amounts stand
 pub record AmountsFrom (bs : List ℕ) (end : ℕ) (row : Row) : Type 0 where
@@ -216,16 +219,18 @@ short-row earlier row later short rows =
     let names = all-parts _ earlier (row ∷ later) (none-any _ (earlier ++ row ∷ later) (ap hasLongName (sym rows) ∙ short)) in
     ltb-false longestName (length (row .name)) (names .1 .0)
 
-pub row-of : {bs : List ℕ} {at : ℕ} {So-far : (earlier later : List Row) → Type 0} (names : ShortNames bs) → Passed bs (names .snapshot .rows) at So-far → at < length bs → RowOf bs at
-row-of names p h =
-    let a = at-row p h in
-    record {
-      snapshot = names .snapshot;
-      is-read = names .is-read;
-      short = names .short;
-      earlier = a .earlier;
-      row = a .row;
-      later = a .later;
-      rows = a .rows;
-      from = a .from;
-    }
+module _ {bs : List ℕ} {at : ℕ} {So-far : (earlier later : List Row) → Type 0} (names : ShortNames bs) where
+  abbrev pub rowHere : AtRow bs (names .snapshot .rows) at So-far → RowOf bs at
+  rowHere a = record {
+    snapshot = names .snapshot;
+    is-read = names .is-read;
+    short = names .short;
+    earlier = a .earlier;
+    row = a .row;
+    later = a .later;
+    rows = a .rows;
+    from = a .from;
+  }
+
+  pub row-of : Passed bs (names .snapshot .rows) at So-far → at < length bs → RowOf bs at
+  row-of p h = rowHere (at-row p h)

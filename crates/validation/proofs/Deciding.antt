@@ -3,7 +3,7 @@ use mathlib.Core.Path.{_≡_, refl, sym, ap, subst, _∙_}
 use mathlib.Core.Logic.{_≢_}
 use mathlib.Core.Bool.{Bool, true, false}
 use mathlib.Core.List.{List, [], _∷_}
-use mathlib.Core.Option.{Option, some}
+use mathlib.Core.Option.{Option, none, some}
 use Prim.Native.Nat.{ℕ, _^_, _<_}
 use native.Mathlib.Omega.{arith}
 use borrow.Author.Tests.{eq-eqb}
@@ -12,9 +12,9 @@ use lib.IntN.{ℤ, pos, negsuc}
 use lib.Signed.{mag}
 use types.Run.{OneOf, miss}
 use Rattle.rules.specs.RoomAndSoundLedger.{Name}
-use Rattle.rules.specs.AnswerNumbers.{Refusal}
+use Rattle.rules.specs.AnswerNumbers.{Refusal, NameTooLong}
 use Rattle.rules.specs.SnapshotsMigrationCertificates.{_gives_else_, andThen, isNegative, equals}
-use Rattle.rules.proofs.Tests.{by-bool}
+use Rattle.rules.proofs.Tests.{by-bool, none-some}
 use Rattle.rules.proofs.Checks.{equals-true}
 use Rattle.numbers.proofs.Amounts.{held, held-is}
 use Rattle.validation.specs.declared.Verdict.{Verdict}
@@ -69,6 +69,10 @@ refuses a verdict.NamesFull later h = refl
 refuses a verdict.OutputTooShort later h = refl
 refuses a verdict.BadFrame later h = refl
 refuses a verdict.UnsoundLedger later h = refl
+
+pub refusal-given : (a : Name) (v : Verdict) → NotDone v → refusalOf a v ≢ none
+unfolding andThen
+refusal-given a v h e = none-some (sym e ∙ refuses a v (some NameTooLong) h ∙ ap (λ o. andThen o (some NameTooLong)) e)
 
 pub passes-on : (a : Name) (v : Verdict) (later : Option Refusal) → v ≡ verdict.Done → andThen (refusalOf a v) later ≡ later
 unfolding andThen

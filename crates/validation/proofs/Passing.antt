@@ -11,14 +11,14 @@ use Rattle.names.specs.Names.{spelled}
 use Rattle.names.specs.declared.Name.{Name}
 use Rattle.snapshot_reader.specs.Standing.{OfSnapshot, RowStands, ShortNames, RowOf, Passed}
 use Rattle.snapshot_reader.proofs.Header.{header}
-use Rattle.snapshot_reader.proofs.Rows.{Ends, start, at-row, advance, finished, row-of}
+use Rattle.snapshot_reader.proofs.Rows.{Ends, start, at-row, advance, finished, rowHere, row-of}
 use Rattle.validation.specs.declared.Verdict.{Verdict}
 use Rattle.validation.specs.declared.Verdict.the-variants.{Done}
 use Rattle.validation.specs.declared.Judged.{Judged}
 use Rattle.validation.specs.Judgement.{refusalOf, refusalIn, nameless, seenIn}
 use Rattle.validation.proofs.Deciding.{NotDone, refuses, passes-on}
 use Rattle.validation.proofs.Seen.{seen-more}
-use Rattle.validation.proofs.Standing.{namesIn, rowHere}
+use Rattle.validation.proofs.Standing.{namesIn}
 
 -- what is said of a row after those before it, and of all rows to come
 pub record Pass : Type 0 where

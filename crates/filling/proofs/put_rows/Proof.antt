@@ -13,9 +13,9 @@ use Rattle.numbers.proofs.Bytes.{all-bytes}
 use Rattle.room.specs.Room.{OfRoom}
 use Rattle.snapshot_reader.specs.Standing.{OfSnapshot, Passed, ReadsRow}
 use Rattle.snapshot_reader.proofs.Header.{header}
-use Rattle.snapshot_reader.proofs.Rows.{AtRow, start, at-row, stands, advance, finished}
+use Rattle.snapshot_reader.proofs.Rows.{part-is-name, AtRow, start, at-row, stands, advance, finished}
 use Rattle.filling.specs.Filling.{NoneNegative, seatOfRow}
-use Rattle.filling.proofs.Putting.{passes, Put, none-put, row-natural, row-asks, row-put, name-part}
+use Rattle.filling.proofs.Putting.{passes, Put, none-put, row-natural, row-asks, row-put}
 use Rattle.filling.proofs.put_rows.Statement.{statement}
 use Rattle.filling.proofs.put_rows.Tie as tie
 
@@ -69,7 +69,7 @@ module _ (c : tie.After-read-row Inv-loop μ-loop) (L : Ledger) (s : Snapshot) (
   read = c .read-row .ensures (n .row) (n .later) (n .from)
 
   is-name : let at = c .before .before .loop .at in take (c .read-row .result .«name_end» - (at + 1)) (drop (at + 1) (entry (c .before) .args .bytes .now)) ≡ n .row .name
-  is-name = name-part (read .ends-name)
+  is-name = part-is-name (read .ends-name)
 
 is-seat : (c : tie.After-seat-of Inv-loop μ-loop) (L : Ledger) (s : Snapshot) (n : RowAt (c .before .before .before .before) L s) → c .seat-of .result ≡ seatOfRow (n .row)
 is-seat c L s n = let r = read (c .before .before .before) L s n in c .seat-of .ensures (n .row) (r .initial) (r .remaining) (r .committed)

@@ -9,8 +9,7 @@ use Rattle.rules.specs.RoomAndSoundLedger.{longestName}
 use Rattle.names.specs.Names.{spelled}
 use Rattle.names.proofs.Storing.{spelled-stored}
 use Rattle.snapshot_reader.specs.Standing.{EndsName}
-use Rattle.snapshot_reader.proofs.Rows.{short-row}
-use Rattle.validation.proofs.Standing.{part-is-name}
+use Rattle.snapshot_reader.proofs.Rows.{part-is-name, short-row}
 use Rattle.validation.proofs.name_at.Statement.{statement}
 use Rattle.validation.proofs.name_at.Tie as tie
 

@@ -10,10 +10,9 @@ use Rattle.rules.specs.RoomAndSoundLedger.{same}
 use Rattle.rules.specs.SnapshotsMigrationCertificates.{Row}
 use Rattle.snapshot_reader.specs.Standing.{RowStands, OfRow, RowOf, Passed, EndsName}
 use Rattle.snapshot_reader.proofs.Header.{header}
-use Rattle.snapshot_reader.proofs.Rows.{AtRow, start, at-row, Further, forward, advance}
+use Rattle.snapshot_reader.proofs.Rows.{part-is-name, AtRow, start, at-row, Further, forward, advance}
 use Rattle.snapshot_reader.proofs.Towards.{Towards, towards-start, towards-turn, towards-end}
 use Rattle.validation.proofs.Seen.{isNamed, any-before, any-there, seen-earlier}
-use Rattle.validation.proofs.Standing.{part-is-name}
 use Rattle.validation.proofs.seen_earlier.Statement.{statement}
 use Rattle.validation.proofs.seen_earlier.Tie as tie
 
