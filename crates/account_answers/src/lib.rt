@@ -9,10 +9,11 @@ ghost use Prim.Native.Nat.{_≤_};
 ghost use lib.ListN.{length};
 ghost use Rattle.accounts.specs.Answers.{ensuredReply, toppedUpReply, limitedReply};
 ghost use Rattle.reservations.specs.Answers.{reservedReply, committedReply, releasedReply};
+ghost use Rattle.answer_bytes.specs.Sizes.{longestOtherAnswer};
 ghost use Rattle.answer_bytes.specs.Writing.{WritesReply};
 
 pub fn write_ensured(output: &mut [u8], answer: Ensured) -> usize
-    requires { ⌜ 51 ≤ length (now output) ⌝ }
+    requires { ⌜ longestOtherAnswer ≤ length (now output) ⌝ }
     ensures { λ r. ⌜ WritesReply (ensuredReply answer) (now (output .entry)) (now (output .exit)) r ⌝ }
 {
     match answer {
@@ -29,7 +30,7 @@ pub fn write_ensured(output: &mut [u8], answer: Ensured) -> usize
 }
 
 pub fn write_topped_up(output: &mut [u8], answer: ToppedUp) -> usize
-    requires { ⌜ 51 ≤ length (now output) ⌝ }
+    requires { ⌜ longestOtherAnswer ≤ length (now output) ⌝ }
     ensures { λ r. ⌜ WritesReply (toppedUpReply answer) (now (output .entry)) (now (output .exit)) r ⌝ }
 {
     match answer {
@@ -49,7 +50,7 @@ pub fn write_topped_up(output: &mut [u8], answer: ToppedUp) -> usize
 }
 
 pub fn write_limited(output: &mut [u8], answer: Limited) -> usize
-    requires { ⌜ 51 ≤ length (now output) ⌝ }
+    requires { ⌜ longestOtherAnswer ≤ length (now output) ⌝ }
     ensures { λ r. ⌜ WritesReply (limitedReply answer) (now (output .entry)) (now (output .exit)) r ⌝ }
 {
     match answer {
@@ -66,7 +67,7 @@ pub fn write_limited(output: &mut [u8], answer: Limited) -> usize
 }
 
 pub fn write_reserved(output: &mut [u8], answer: Reserved) -> usize
-    requires { ⌜ 51 ≤ length (now output) ⌝ }
+    requires { ⌜ longestOtherAnswer ≤ length (now output) ⌝ }
     ensures { λ r. ⌜ WritesReply (reservedReply answer) (now (output .entry)) (now (output .exit)) r ⌝ }
 {
     match answer {
@@ -94,7 +95,7 @@ pub fn write_reserved(output: &mut [u8], answer: Reserved) -> usize
 }
 
 pub fn write_committed(output: &mut [u8], answer: Committed) -> usize
-    requires { ⌜ 51 ≤ length (now output) ⌝ }
+    requires { ⌜ longestOtherAnswer ≤ length (now output) ⌝ }
     ensures { λ r. ⌜ WritesReply (committedReply answer) (now (output .entry)) (now (output .exit)) r ⌝ }
 {
     match answer {
@@ -122,7 +123,7 @@ pub fn write_committed(output: &mut [u8], answer: Committed) -> usize
 }
 
 pub fn write_released(output: &mut [u8], answer: Released) -> usize
-    requires { ⌜ 51 ≤ length (now output) ⌝ }
+    requires { ⌜ longestOtherAnswer ≤ length (now output) ⌝ }
     ensures { λ r. ⌜ WritesReply (releasedReply answer) (now (output .entry)) (now (output .exit)) r ⌝ }
 {
     match answer {

@@ -5,6 +5,7 @@ use Prim.Native.Nat.{ℕ, _+_, _-_, _≤_}
 use native.Mathlib.Omega.{arith}
 use lib.ListN.{length, drop, length-append}
 use lib.Seq.{length-take-le}
+use Rattle.rules.specs.RoomAndSoundLedger.{longestName}
 use Rattle.rules.specs.AnswerNumbers.{Value, TheName, reply}
 use Rattle.rules.specs.SnapshotsMigrationCertificates.{bytesOf, nameBytes}
 use Rattle.rules.specs.Frames.{valueBytes, replyBytes}
@@ -52,7 +53,7 @@ module _ {n : ℕ} {vs : List Value} {before after w : List ℕ} {from : ℕ} (s
   value-behind k x v is-written is = part-behind v (from + k) (is ∙ sym is-written) (ap (λ m. from + m) (ap length is ∙ bytes-length k x))
 
 -- a name comes right behind the number
-pub name-written : {n : ℕ} {before after w : List ℕ} (name : Name) → length (name .bytes) ≡ 24 → name .length ≤ 24 → WritesReply (reply n []) before after 1 → w ≡ nameBytes (spelled name)
+pub name-written : {n : ℕ} {before after w : List ℕ} (name : Name) → length (name .bytes) ≡ longestName → name .length ≤ longestName → WritesReply (reply n []) before after 1 → w ≡ nameBytes (spelled name)
     → WritesReply (reply n (TheName (spelled name) ∷ [])) before (put 1 (2 + name .length - 1) after w) (2 + name .length)
 name-written name held short so-far is =
     let size : length (spelled name) ≡ name .length = length-take-le (name .length) (name .bytes) (omega arith) in

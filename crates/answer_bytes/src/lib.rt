@@ -1,11 +1,24 @@
-// "the answer number as a byte, then what it carries, names as in a snapshot row": the shapes that answers have, each written to the front of the output.
+// The shapes that answers have (document 01, "Frames"), each written to the front of the output: the number's byte, and behind it numbers of eight bytes, a
+// name with its length in front, a field's byte.
 use names::Name;
 ghost use mathlib.Core.List.{[], _∷_};
 ghost use Prim.Native.Nat.{_+_, _≤_};
 ghost use lib.ListN.{length};
+ghost use Rattle.rules.specs.RoomAndSoundLedger.{longestName};
 ghost use Rattle.rules.specs.AnswerNumbers.{Value, TheName, reply};
 ghost use Rattle.names.specs.Names.{spelled};
+ghost use Rattle.answer_bytes.specs.Sizes.{oneWord, twoWords, threeWords, named, namedWord, namedField};
 ghost use Rattle.answer_bytes.specs.Writing.{WritesReply, IsWritten, IsByteWritten};
+
+// How many bytes the number takes with so many words behind it.
+pub const ONE_WORD: usize = 1 + 8;
+
+pub const TWO_WORDS: usize = ONE_WORD + 8;
+
+pub const THREE_WORDS: usize = TWO_WORDS + 8;
+
+// A certificate is the longest answer that hands out no snapshot: three words, a yes or no, both totals, a yes or no, and since.
+pub const LONGEST_OTHER_ANSWER: usize = THREE_WORDS + 1 + 8 + 8 + 1 + 8;
 
 pub fn write_number(output: &mut [u8], number: u8) -> usize
     requires { ⌜ 1 ≤ length (now output) ⌝ }
@@ -16,22 +29,23 @@ pub fn write_number(output: &mut [u8], number: u8) -> usize
 }
 
 pub fn write_word(output: &mut [u8], number: u8, first: u64) -> usize
-    requires { ⌜ 9 ≤ length (now output) ⌝ }
+    requires { ⌜ oneWord ≤ length (now output) ⌝ }
     ensures { λ r. ⌜ ((v : Value) → IsWritten first v → WritesReply (reply number (v ∷ [])) (now (output .entry)) (now (output .exit)) r) ⌝ }
 {
     numbers::write1(&mut output[0..1], number);
-    big_endian::write8(&mut output[1..9], first);
-    9
+    big_endian::write8(&mut output[1..ONE_WORD], first);
+    ONE_WORD
 }
 
 pub fn write_two_words(output: &mut [u8], number: u8, first: u64, second: u64) -> usize
-    requires { ⌜ 17 ≤ length (now output) ⌝ }
-    ensures { λ r. ⌜ ((v w : Value) → IsWritten first v → IsWritten second w → WritesReply (reply number (v ∷ w ∷ [])) (now (output .entry)) (now (output .exit)) r) ⌝ }
+    requires { ⌜ twoWords ≤ length (now output) ⌝ }
+    ensures { λ r. ⌜ ((v w : Value) → IsWritten first v → IsWritten second w → WritesReply (reply number (v ∷ w ∷ []))
+        (now (output .entry)) (now (output .exit)) r) ⌝ }
 {
     numbers::write1(&mut output[0..1], number);
-    big_endian::write8(&mut output[1..9], first);
-    big_endian::write8(&mut output[9..17], second);
-    17
+    big_endian::write8(&mut output[1..ONE_WORD], first);
+    big_endian::write8(&mut output[ONE_WORD..TWO_WORDS], second);
+    TWO_WORDS
 }
 
 pub fn write_three_words(
@@ -41,18 +55,19 @@ pub fn write_three_words(
     second: u64,
     third: u64,
 ) -> usize
-    requires { ⌜ 25 ≤ length (now output) ⌝ }
-    ensures { λ r. ⌜ ((v w x : Value) → IsWritten first v → IsWritten second w → IsWritten third x → WritesReply (reply number (v ∷ w ∷ x ∷ [])) (now (output .entry)) (now (output .exit)) r) ⌝ }
+    requires { ⌜ threeWords ≤ length (now output) ⌝ }
+    ensures { λ r. ⌜ ((v w x : Value) → IsWritten first v → IsWritten second w → IsWritten third x → WritesReply (reply number (v ∷ w ∷ x ∷ []))
+        (now (output .entry)) (now (output .exit)) r) ⌝ }
 {
     numbers::write1(&mut output[0..1], number);
-    big_endian::write8(&mut output[1..9], first);
-    big_endian::write8(&mut output[9..17], second);
-    big_endian::write8(&mut output[17..25], third);
-    25
+    big_endian::write8(&mut output[1..ONE_WORD], first);
+    big_endian::write8(&mut output[ONE_WORD..TWO_WORDS], second);
+    big_endian::write8(&mut output[TWO_WORDS..THREE_WORDS], third);
+    THREE_WORDS
 }
 
 pub fn write_named(output: &mut [u8], number: u8, name: Name) -> usize
-    requires { ⌜ (26 ≤ length (now output)) × (name .length ≤ 24) ⌝ }
+    requires { ⌜ (named ≤ length (now output)) × (name .length ≤ longestName) ⌝ }
     ensures { λ r. ⌜ WritesReply (reply number (TheName (spelled name) ∷ [])) (now (output .entry)) (now (output .exit)) r ⌝ }
 {
     let end = 2 + name.length as usize;
@@ -62,8 +77,9 @@ pub fn write_named(output: &mut [u8], number: u8, name: Name) -> usize
 }
 
 pub fn write_named_word(output: &mut [u8], number: u8, name: Name, word: u64) -> usize
-    requires { ⌜ (34 ≤ length (now output)) × (name .length ≤ 24) ⌝ }
-    ensures { λ r. ⌜ ((v : Value) → IsWritten word v → WritesReply (reply number (TheName (spelled name) ∷ v ∷ [])) (now (output .entry)) (now (output .exit)) r) ⌝ }
+    requires { ⌜ (namedWord ≤ length (now output)) × (name .length ≤ longestName) ⌝ }
+    ensures { λ r. ⌜ ((v : Value) → IsWritten word v → WritesReply (reply number (TheName (spelled name) ∷ v ∷ []))
+        (now (output .entry)) (now (output .exit)) r) ⌝ }
 {
     let from = 2 + name.length as usize;
     let end = from + 8;
@@ -74,8 +90,9 @@ pub fn write_named_word(output: &mut [u8], number: u8, name: Name, word: u64) ->
 }
 
 pub fn write_named_field(output: &mut [u8], number: u8, name: Name, field: u8, word: u64) -> usize
-    requires { ⌜ (35 ≤ length (now output)) × (name .length ≤ 24) ⌝ }
-    ensures { λ r. ⌜ ((v w : Value) → IsByteWritten field v → IsWritten word w → WritesReply (reply number (TheName (spelled name) ∷ v ∷ w ∷ [])) (now (output .entry)) (now (output .exit)) r) ⌝ }
+    requires { ⌜ (namedField ≤ length (now output)) × (name .length ≤ longestName) ⌝ }
+    ensures { λ r. ⌜ ((v w : Value) → IsByteWritten field v → IsWritten word w → WritesReply (reply number (TheName (spelled name) ∷ v ∷ w ∷ []))
+        (now (output .entry)) (now (output .exit)) r) ⌝ }
 {
     let byte = 2 + name.length as usize;
     let from = byte + 1;

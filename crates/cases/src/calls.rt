@@ -1,8 +1,8 @@
 // The calls whose answers are bytes. Each function answers some operations, in the order of its list: it writes the answer to the front of the room for
 // it and says how many bytes it takes, or 0 where the operation is not in the list.
-use crate::shown::LONGEST_ANSWER;
 use crate::text;
 use crate::text::Numbers;
+use answer_bytes::LONGEST_OTHER_ANSWER;
 use any_memory_accounts::Counted;
 use any_memory_accounts::Since;
 use numbers::Identifier;
@@ -11,7 +11,7 @@ use reads::Reading;
 use reads::Total;
 use soundness::Made;
 
-fn write_made(answer: &mut [u8; LONGEST_ANSWER], made: Made) -> usize {
+fn write_made(answer: &mut [u8; LONGEST_OTHER_ANSWER], made: Made) -> usize {
     match made {
         Made::Done => answer_bytes::write_number(answer, 0),
         Made::UnsoundLedger => answer_bytes::write_number(answer, 24),
@@ -23,14 +23,26 @@ fn on_account(
     name: &[u8],
     amount: Microcents,
     memory: &mut [u8],
-    answer: &mut [u8; LONGEST_ANSWER],
+    answer: &mut [u8; LONGEST_OTHER_ANSWER],
 ) -> usize {
     let place = text::place(operation, b"ensure top-up limit reserve");
     match place {
-        0 => account_answers::write_ensured(answer, any_memory_accounts::ensure(memory, name, amount)),
-        1 => account_answers::write_topped_up(answer, any_memory_accounts::top_up(memory, name, amount)),
-        2 => account_answers::write_limited(answer, any_memory_accounts::limit(memory, name, amount)),
-        3 => account_answers::write_reserved(answer, any_memory_accounts::reserve(memory, name, amount)),
+        0 => account_answers::write_ensured(
+            answer,
+            any_memory_accounts::ensure(memory, name, amount),
+        ),
+        1 => account_answers::write_topped_up(
+            answer,
+            any_memory_accounts::top_up(memory, name, amount),
+        ),
+        2 => account_answers::write_limited(
+            answer,
+            any_memory_accounts::limit(memory, name, amount),
+        ),
+        3 => account_answers::write_reserved(
+            answer,
+            any_memory_accounts::reserve(memory, name, amount),
+        ),
         _ => 0,
     }
 }
@@ -40,7 +52,7 @@ pub fn change(
     name: &[u8],
     numbers: Numbers,
     memory: &mut [u8],
-    answer: &mut [u8; LONGEST_ANSWER],
+    answer: &mut [u8; LONGEST_OTHER_ANSWER],
 ) -> usize {
     let amount = big_endian::signed(numbers.amount);
     let place = text::place(operation, b"make commit release");
@@ -61,7 +73,7 @@ pub fn change(
     }
 }
 
-fn write_reading(answer: &mut [u8; LONGEST_ANSWER], reading: Reading) -> usize {
+fn write_reading(answer: &mut [u8; LONGEST_OTHER_ANSWER], reading: Reading) -> usize {
     match reading {
         Reading::Amount(amount) => answer_bytes::write_word(answer, 0, big_endian::word_of(amount)),
         Reading::MissingTenant => answer_bytes::write_number(answer, 3),
@@ -70,7 +82,7 @@ fn write_reading(answer: &mut [u8; LONGEST_ANSWER], reading: Reading) -> usize {
     }
 }
 
-fn write_total(answer: &mut [u8; LONGEST_ANSWER], total: Total) -> usize {
+fn write_total(answer: &mut [u8; LONGEST_OTHER_ANSWER], total: Total) -> usize {
     match total {
         Total::Amount(amount) => answer_bytes::write_word(answer, 0, big_endian::word_of(amount)),
         Total::AggregateOverflow => answer_bytes::write_number(answer, 15),
@@ -78,14 +90,14 @@ fn write_total(answer: &mut [u8; LONGEST_ANSWER], total: Total) -> usize {
     }
 }
 
-fn write_counted(answer: &mut [u8; LONGEST_ANSWER], counted: Counted) -> usize {
+fn write_counted(answer: &mut [u8; LONGEST_OTHER_ANSWER], counted: Counted) -> usize {
     match counted {
         Counted::Count(count) => answer_bytes::write_word(answer, 0, count),
         Counted::UnsoundLedger => answer_bytes::write_number(answer, 24),
     }
 }
 
-fn write_since(answer: &mut [u8; LONGEST_ANSWER], since: Since) -> usize {
+fn write_since(answer: &mut [u8; LONGEST_OTHER_ANSWER], since: Since) -> usize {
     match since {
         Since::Amount(amount) => answer_bytes::write_word(answer, 0, big_endian::word_of(amount)),
         Since::UnsoundLedger => answer_bytes::write_number(answer, 24),
@@ -96,7 +108,7 @@ pub fn read(
     operation: &[u8],
     name: &[u8],
     memory: &[u8],
-    answer: &mut [u8; LONGEST_ANSWER],
+    answer: &mut [u8; LONGEST_OTHER_ANSWER],
 ) -> usize {
     let place = text::place(
         operation,
@@ -120,7 +132,7 @@ fn certify(
     since: Microcents,
     memory: &mut [u8],
     supplied: &[u8],
-    answer: &mut [u8; LONGEST_ANSWER],
+    answer: &mut [u8; LONGEST_OTHER_ANSWER],
 ) -> usize {
     let place = text::place(operation, b"certificate certificate-of proof");
     match place {
@@ -129,7 +141,10 @@ fn certify(
             answer,
             any_memory_snapshots::certificate_of_snapshot(supplied, since),
         ),
-        2 => snapshot_answers::write_proved(answer, any_memory_snapshots::conservation_proof(memory)),
+        2 => snapshot_answers::write_proved(
+            answer,
+            any_memory_snapshots::conservation_proof(memory),
+        ),
         _ => 0,
     }
 }
@@ -141,12 +156,18 @@ pub fn judge(
     memory: &mut [u8],
     supplied: &[u8],
     output: &mut [u8],
-    answer: &mut [u8; LONGEST_ANSWER],
+    answer: &mut [u8; LONGEST_OTHER_ANSWER],
 ) -> usize {
     let place = text::place(operation, b"restore recovery-restore migrate status");
     match place {
-        0 => snapshot_answers::write_judged(answer, any_memory_snapshots::restore(memory, supplied)),
-        1 => snapshot_answers::write_judged(answer, any_memory_snapshots::recovery_restore(memory, supplied)),
+        0 => snapshot_answers::write_judged(
+            answer,
+            any_memory_snapshots::restore(memory, supplied),
+        ),
+        1 => snapshot_answers::write_judged(
+            answer,
+            any_memory_snapshots::recovery_restore(memory, supplied),
+        ),
         2 => snapshot_answers::write_judged(
             answer,
             any_memory_snapshots::migrate(supplied, numbers.second, output),

@@ -3,14 +3,14 @@ use crate::calls;
 use crate::lent;
 use crate::lent::Lent;
 use crate::shown;
-use crate::shown::LONGEST_ANSWER;
 use crate::text;
 use crate::text::Numbers;
+use answer_bytes::LONGEST_OTHER_ANSWER;
 use any_memory_accounts::Versioned;
 use lines::Progress;
 use snapshot_writer::Snapshotted;
-ghost use mathlib.Core.Path.{_≡_};
 ghost use Prim.Native.Nat.{_<_, min};
+ghost use mathlib.Core.Path.{_≡_};
 
 fn least(a: usize, b: usize) -> usize
     ensures { λ r. ⌜ r ≡ min a b ⌝ }
@@ -145,7 +145,7 @@ fn account_answered(
     let pair = text::split(rest);
     let end = pair.end;
     let last = pair.last;
-    let mut answer = [0u8; LONGEST_ANSWER];
+    let mut answer = [0u8; LONGEST_OTHER_ANSWER];
     let size = calls::change(operation, &rest[0..end], numbers, memory, &mut answer);
     if shown::answered(line, &answer, size, true) {
         return true;
@@ -162,7 +162,7 @@ fn snapshot_answered(
     supplied: &[u8],
     output: &mut [u8],
 ) -> bool {
-    let mut answer = [0u8; LONGEST_ANSWER];
+    let mut answer = [0u8; LONGEST_OTHER_ANSWER];
     let size = calls::judge(operation, numbers, memory, supplied, output, &mut answer);
     shown::answered(line, &answer, size, false)
 }

@@ -35,9 +35,9 @@ mod lent;
 mod shown;
 mod text;
 
-// The most that the lines may lend: the memory of 256 names and 1,024 reservations, and output for any one answer.
-const MEMORY_SIZE: usize = 35384;
+use lines::DESK_ROOM;
 
+// The most that the lines may lend: the largest room as memory, and output for any one answer line.
 const OUTPUT_SIZE: usize = 30000;
 
 // Nothing that the lines supply is longer than they are.
@@ -45,7 +45,7 @@ const INPUT_SIZE: usize = 65536;
 
 fn main() {
     let mut input = [0u8; INPUT_SIZE];
-    let mut memory = [0u8; MEMORY_SIZE];
+    let mut memory = [0u8; DESK_ROOM];
     let mut supplied = [0u8; INPUT_SIZE];
     let mut output = [0u8; OUTPUT_SIZE];
     let size = io::read_full(0, &mut input);

@@ -1,14 +1,12 @@
 // What standard output shows: a line of the input and its answer.
+use answer_bytes::LONGEST_OTHER_ANSWER;
 ghost use Prim.Native.Nat.{_<_};
 ghost use lib.ListN.{length};
 
 // The words from here on stand for negative amounts.
-const FIRST_NEGATIVE: u64 = 9223372036854775808;
+const FIRST_NEGATIVE: u64 = rules::M + 1;
 
 const WORD_SIZE: usize = 8;
-
-// The longest answer that a call here gives is a certificate's.
-pub const LONGEST_ANSWER: usize = 51;
 
 pub fn text(characters: &[u8]) {
     io::write_all(1, characters);
@@ -66,11 +64,16 @@ fn decimals(answer: &[u8])
 }
 
 // The answer stands at the front of the room for it; false where there is none.
-pub fn answered(line: &[u8], answer: &[u8; LONGEST_ANSWER], size: usize, in_decimal: bool) -> bool {
+pub fn answered(
+    line: &[u8],
+    answer: &[u8; LONGEST_OTHER_ANSWER],
+    size: usize,
+    in_decimal: bool,
+) -> bool {
     if size < 1 {
         return false;
     }
-    if LONGEST_ANSWER < size {
+    if LONGEST_OTHER_ANSWER < size {
         return false;
     }
     let whole = &answer[..];

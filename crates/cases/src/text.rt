@@ -9,7 +9,7 @@ const NOWHERE: u64 = 255;
 const LARGEST_FRONT: u64 = 1000000000000000000;
 
 // How far the least amount is below zero.
-const LARGEST_NEGATIVE: u64 = 9223372036854775808;
+const LARGEST_NEGATIVE: u64 = rules::M + 1;
 
 struct Number {
     given: bool,

@@ -15,7 +15,7 @@ use Rattle.rules.specs.SnapshotsMigrationCertificates.{Reader, reads, whole, nu
 use Rattle.rules.specs.Frames.{Operation, onAccount, nameAndAmount, codes, operationOf}
 use Rattle.rules.proofs.Tests.{by-bool}
 use Rattle.snapshot_reader.proofs.RowBytes.{Takes, takes-then, takes-nothing, part-takes, number-takes, amountAt, amount-takes}
-use Rattle.frame_reader.specs.Operations.{nameIn}
+use Rattle.frame_reader.specs.Operations.{wordEnd, twoWordsEnd, nameStart, nameIn}
 use Rattle.frame_reader.proofs.Codes.{byte-at, bodyWith, by-code}
 
 -- ── a reader that takes just the bytes that are there ──────────────────────────────────────────
@@ -44,30 +44,30 @@ module _ {bs : List ℕ} (h : 1 ≤ length bs) where
       let read : operationOf bs ≡ whole (body (drop 1 bs)) = by-code bs h number e ∙ ap (λ r. whole (r (drop 1 bs))) is in
       record { fit = λ f. read ∙ whole-fit takes f; misfit = λ f. read ∙ whole-misfit takes h f }
 
-  -- "07 snapshot", "0b certificate", "0d proof"
+  -- 07, 0b, 0d: the code alone
   pub alone : {number : ℕ} (x : Operation) → getD bs 0 0 ≡ number → bodyWith number ≡ reads x → Sized bs 1 x
   alone x e is = sized e is (takes-nothing bs 1 x)
 
-  -- "05 commit (id, amount)"
-  pub committing : getD bs 0 0 ≡ 5 → Sized bs 17 (onAccount (commit (numberOf (take 8 (drop 1 bs))) (amountAt 9 bs)))
+  -- 05: the identifier, then the amount
+  pub committing : getD bs 0 0 ≡ 5 → Sized bs twoWordsEnd (onAccount (commit (numberOf (take 8 (drop 1 bs))) (amountAt wordEnd bs)))
   unfolding first codes
   committing e = sized e refl
-      (takes-then _ (number-takes bs 1 9 8 refl) (omega arith)
-      (takes-then _ (amount-takes bs 9 17 refl) (omega arith)
-      (takes-nothing bs 17 _)))
+      (takes-then _ (number-takes bs 1 wordEnd 8 refl) (omega arith)
+      (takes-then _ (amount-takes bs wordEnd twoWordsEnd refl) (omega arith)
+      (takes-nothing bs twoWordsEnd _)))
 
-  -- "06 release (id)"
-  pub releasing : getD bs 0 0 ≡ 6 → Sized bs 9 (onAccount (release (numberOf (take 8 (drop 1 bs)))))
+  -- 06: the identifier
+  pub releasing : getD bs 0 0 ≡ 6 → Sized bs wordEnd (onAccount (release (numberOf (take 8 (drop 1 bs)))))
   unfolding first codes
-  releasing e = sized e refl (takes-then _ (number-takes bs 1 9 8 refl) (omega arith) (takes-nothing bs 9 _))
+  releasing e = sized e refl (takes-then _ (number-takes bs 1 wordEnd 8 refl) (omega arith) (takes-nothing bs wordEnd _))
 
-  -- "01 ensure, 02 top-up, 03 limit, 04 reserve (name, amount)": byte 1 is the length of the name
-  module _ (end : ℕ) (ends : end ≡ 2 + getD bs 1 0) where
+  -- 01 to 04: byte 1 is the length of the name, and the amount follows the name
+  module _ (end : ℕ) (ends : end ≡ nameStart + getD bs 1 0) where
     name-takes : Takes bs 1 end readName (nameIn bs end)
     unfolding readName
     name-takes =
-        let size : numberOf (take 1 (drop 1 bs)) ≡ end - 2 = byte-at 1 bs ∙ omega arith in
-        takes-then readPart (subst (Takes bs 1 2 (readNumber 1)) size (number-takes bs 1 2 1 refl)) (omega arith) (part-takes bs 2 end (end - 2) (omega arith))
+        let size : numberOf (take 1 (drop 1 bs)) ≡ end - nameStart = byte-at 1 bs ∙ omega arith in
+        takes-then readPart (subst (Takes bs 1 nameStart (readNumber 1)) size (number-takes bs 1 nameStart 1 refl)) (omega arith) (part-takes bs nameStart end (end - nameStart) (omega arith))
 
     pub naming : {number : ℕ} (operation : Name → ℤ → AccountOperation ℕ) → getD bs 0 0 ≡ number → bodyWith number ≡ nameAndAmount operation
         → Sized bs (end + 8) (onAccount (operation (nameIn bs end) (amountAt end bs)))

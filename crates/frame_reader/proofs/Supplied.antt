@@ -15,7 +15,7 @@ use Rattle.rules.specs.Frames.{Operation, migrateTo, certify, aSnapshot, codes,
 use Rattle.rules.proofs.Tests.{by-bool, by-option, true-false}
 use Rattle.snapshot_reader.specs.Standing.{isRead}
 use Rattle.snapshot_reader.proofs.RowBytes.{Takes, goes-on, takes-nothing, number-takes, amountAt, amount-takes}
-use Rattle.frame_reader.specs.Operations.{supplied, StandsFrom}
+use Rattle.frame_reader.specs.Operations.{wordEnd, supplied, StandsFrom}
 use Rattle.frame_reader.proofs.Codes.{bodyWith, by-code}
 
 -- ── bytes that are a snapshot ──────────────────────────────────────────────────────────────────
@@ -60,16 +60,16 @@ module _ {bs : List ℕ} (h : 1 ≤ length bs) where
         long = λ l. read ∙ ap whole (goes-on (λ y. aSnapshot (operation y)) takes l) ∙ whole-snapshot (operation x) (drop from bs);
       }
 
-  -- "08 restore, 09 recovery restore (snapshot)", "0e conservation status of a snapshot"
+  -- 08, 09, 0e: the snapshot
   pub after-code : {number : ℕ} (operation : Snapshot → Operation) → getD bs 0 0 ≡ number → bodyWith number ≡ aSnapshot operation → Supplied bs 1 operation
   after-code operation e is = after-value (λ _. operation) e is (takes-nothing bs 1 (tt {0}))
 
-  -- "0a migrate (fence, snapshot)"
-  pub migrating : getD bs 0 0 ≡ 10 → Supplied bs 9 (migrateTo (numberOf (take 8 (drop 1 bs))))
+  -- 0a: the fence, then the snapshot
+  pub migrating : getD bs 0 0 ≡ 10 → Supplied bs wordEnd (migrateTo (numberOf (take 8 (drop 1 bs))))
   unfolding first codes
-  migrating e = after-value migrateTo e refl (number-takes bs 1 9 8 refl)
+  migrating e = after-value migrateTo e refl (number-takes bs 1 wordEnd 8 refl)
 
-  -- "0c certificate of a snapshot (since, snapshot)"
-  pub certifying : getD bs 0 0 ≡ 12 → Supplied bs 9 (certify (amountAt 1 bs))
+  -- 0c: since, then the snapshot
+  pub certifying : getD bs 0 0 ≡ 12 → Supplied bs wordEnd (certify (amountAt 1 bs))
   unfolding first codes
-  certifying e = after-value certify e refl (amount-takes bs 1 9 refl)
+  certifying e = after-value certify e refl (amount-takes bs 1 wordEnd refl)

@@ -1,13 +1,18 @@
-// A frame's bytes as an operation, 01 to 0e. A name and a snapshot are left where they stand: the name from byte 2 to its end, the snapshot to the end of
-// the frame.
+// A frame's bytes as an operation, by the codes 01 to 0e of document 01, "Frames"; what is none of them is a bad frame. A name and a snapshot are left where
+// they stand: the name from byte 2 to its end, the snapshot to the end of the frame.
 use numbers::Identifier;
 use numbers::Microcents;
 ghost use mathlib.Core.Path.{_≡_};
 ghost use mathlib.Core.Logic.{_⊎_};
 ghost use Prim.Native.Nat.{_≤_};
-ghost use lib.ListN.{length, getD};
-ghost use Rattle.rules.specs.Frames.{operationOf};
-ghost use Rattle.frame_reader.specs.Operations.{operationIn, PartsWithin};
+ghost use Rattle.frame_reader.specs.Operations.{HasCode, ReadsAs, PartsWithin};
+
+// Where a frame's parts stand: behind its code a word and perhaps another, or the length of a name and the name.
+pub const WORD_END: usize = 1 + 8;
+
+pub const TWO_WORDS_END: usize = WORD_END + 8;
+
+pub const NAME_START: usize = 1 + 1;
 
 pub enum Frame {
     Ensure(usize, Microcents),
@@ -27,16 +32,16 @@ pub enum Frame {
     BadFrame,
 }
 
-// "01 ensure, 02 top-up, 03 limit, 04 reserve (name, amount)"
+// 01 to 04: ensure, top-up, limit and reserve.
 fn read_named(code: u8, bytes: &[u8]) -> Frame
-    requires { ⌜ (1 ≤ length (now bytes)) × (getD (now bytes) 0 0 ≡ code) × (1 ≤ code) × (code ≤ 4) ⌝ }
-    ensures operation { λ r. ⌜ operationIn (now (bytes .entry)) r ≡ operationOf (now (bytes .entry)) ⌝ }
+    requires { ⌜ HasCode (now bytes) code × (1 ≤ code) × (code ≤ 4) ⌝ }
+    ensures operation { λ r. ⌜ ReadsAs (now (bytes .entry)) r ⌝ }
     ensures parts { λ r. ⌜ PartsWithin (now (bytes .entry)) r ⌝ }
 {
-    if bytes.len() < 2 {
+    if bytes.len() < NAME_START {
         return Frame::BadFrame;
     }
-    let end = 2 + bytes[1] as usize;
+    let end = NAME_START + bytes[1] as usize;
     if bytes.len() != end + 8 {
         return Frame::BadFrame;
     }
@@ -49,32 +54,32 @@ fn read_named(code: u8, bytes: &[u8]) -> Frame
     }
 }
 
-// "05 commit (id, amount); 06 release (id)"
+// 05 and 06: commit and release.
 fn read_settlement(code: u8, bytes: &[u8]) -> Frame
-    requires { ⌜ (1 ≤ length (now bytes)) × (getD (now bytes) 0 0 ≡ code) × (5 ≤ code) × (code ≤ 6) ⌝ }
-    ensures operation { λ r. ⌜ operationIn (now (bytes .entry)) r ≡ operationOf (now (bytes .entry)) ⌝ }
+    requires { ⌜ HasCode (now bytes) code × (5 ≤ code) × (code ≤ 6) ⌝ }
+    ensures operation { λ r. ⌜ ReadsAs (now (bytes .entry)) r ⌝ }
     ensures parts { λ r. ⌜ PartsWithin (now (bytes .entry)) r ⌝ }
 {
-    if bytes.len() < 9 {
+    if bytes.len() < WORD_END {
         return Frame::BadFrame;
     }
-    let id = Identifier(big_endian::read8(&bytes[1..9]));
+    let id = Identifier(big_endian::read8(&bytes[1..WORD_END]));
     if code == 6 {
-        if bytes.len() != 9 {
+        if bytes.len() != WORD_END {
             return Frame::BadFrame;
         }
         return Frame::Release(id);
     }
-    if bytes.len() != 17 {
+    if bytes.len() != TWO_WORDS_END {
         return Frame::BadFrame;
     }
-    Frame::Commit(id, big_endian::read_amount(&bytes[9..17]))
+    Frame::Commit(id, big_endian::read_amount(&bytes[WORD_END..TWO_WORDS_END]))
 }
 
-// "07 snapshot", "0b certificate", "0d proof": nothing follows
+// 07, 0b and 0d: the ledger's snapshot, certificate and proof. Nothing follows.
 fn read_alone(code: u8, bytes: &[u8]) -> Frame
-    requires { ⌜ (1 ≤ length (now bytes)) × (getD (now bytes) 0 0 ≡ code) × ((code ≡ 7) ⊎ (code ≡ 11) ⊎ (code ≡ 13)) ⌝ }
-    ensures operation { λ r. ⌜ operationIn (now (bytes .entry)) r ≡ operationOf (now (bytes .entry)) ⌝ }
+    requires { ⌜ HasCode (now bytes) code × ((code ≡ 7) ⊎ (code ≡ 11) ⊎ (code ≡ 13)) ⌝ }
+    ensures operation { λ r. ⌜ ReadsAs (now (bytes .entry)) r ⌝ }
     ensures parts { λ r. ⌜ PartsWithin (now (bytes .entry)) r ⌝ }
 {
     if bytes.len() != 1 {
@@ -87,10 +92,10 @@ fn read_alone(code: u8, bytes: &[u8]) -> Frame
     }
 }
 
-// "08 restore, 09 recovery restore (snapshot)", "0e conservation status of a snapshot"
+// 08, 09 and 0e: both restores, and the conservation status.
 fn read_snapshot(code: u8, bytes: &[u8]) -> Frame
-    requires { ⌜ (1 ≤ length (now bytes)) × (getD (now bytes) 0 0 ≡ code) × ((code ≡ 8) ⊎ (code ≡ 9) ⊎ (code ≡ 14)) ⌝ }
-    ensures operation { λ r. ⌜ operationIn (now (bytes .entry)) r ≡ operationOf (now (bytes .entry)) ⌝ }
+    requires { ⌜ HasCode (now bytes) code × ((code ≡ 8) ⊎ (code ≡ 9) ⊎ (code ≡ 14)) ⌝ }
+    ensures operation { λ r. ⌜ ReadsAs (now (bytes .entry)) r ⌝ }
     ensures parts { λ r. ⌜ PartsWithin (now (bytes .entry)) r ⌝ }
 {
     if !snapshot_reader::is_snapshot(&bytes[1..]) {
@@ -103,27 +108,27 @@ fn read_snapshot(code: u8, bytes: &[u8]) -> Frame
     }
 }
 
-// "0a migrate (fence, snapshot)", "0c certificate of a snapshot (since, snapshot)"
+// 0a and 0c: a migration with its fence, and a certificate of a snapshot with its since.
 fn read_word_and_snapshot(code: u8, bytes: &[u8]) -> Frame
-    requires { ⌜ (1 ≤ length (now bytes)) × (getD (now bytes) 0 0 ≡ code) × ((code ≡ 10) ⊎ (code ≡ 12)) ⌝ }
-    ensures operation { λ r. ⌜ operationIn (now (bytes .entry)) r ≡ operationOf (now (bytes .entry)) ⌝ }
+    requires { ⌜ HasCode (now bytes) code × ((code ≡ 10) ⊎ (code ≡ 12)) ⌝ }
+    ensures operation { λ r. ⌜ ReadsAs (now (bytes .entry)) r ⌝ }
     ensures parts { λ r. ⌜ PartsWithin (now (bytes .entry)) r ⌝ }
 {
-    if bytes.len() < 9 {
+    if bytes.len() < WORD_END {
         return Frame::BadFrame;
     }
-    if !snapshot_reader::is_snapshot(&bytes[9..]) {
+    if !snapshot_reader::is_snapshot(&bytes[WORD_END..]) {
         return Frame::BadFrame;
     }
     if code == 10 {
-        return Frame::Migrate(big_endian::read8(&bytes[1..9]));
+        return Frame::Migrate(big_endian::read8(&bytes[1..WORD_END]));
     }
-    Frame::CertificateOfSnapshot(big_endian::read_amount(&bytes[1..9]))
+    Frame::CertificateOfSnapshot(big_endian::read_amount(&bytes[1..WORD_END]))
 }
 
-// "Empty, .. short, overlong, unknown ..: 23". A frame with a snapshot is passed over once; any other is read without a pass.
+// A frame with a snapshot is passed over once; any other is read without a pass.
 pub fn read(bytes: &[u8]) -> Frame
-    ensures operation { λ r. ⌜ operationIn (now (bytes .entry)) r ≡ operationOf (now (bytes .entry)) ⌝ }
+    ensures operation { λ r. ⌜ ReadsAs (now (bytes .entry)) r ⌝ }
     ensures parts { λ r. ⌜ PartsWithin (now (bytes .entry)) r ⌝ }
 {
     if bytes.len() == 0 {

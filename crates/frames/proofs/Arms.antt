@@ -15,11 +15,12 @@ use Rattle.rules.proofs.Tests.{by-option}
 use Rattle.snapshot_reader.specs.Standing.{IsSnapshot}
 use Rattle.frame_reader.specs.declared.Frame.{Frame}
 use Rattle.frame_reader.specs.declared.Frame.the-variants as frame
-use Rattle.frame_reader.specs.Operations.{supplied, operationIn, StandsFrom, PartsWithin}
+use Rattle.frame_reader.specs.Operations.{wordEnd, supplied, operationIn, StandsFrom, PartsWithin}
 use Rattle.frame_reader.proofs.Frame.{enum}
+use Rattle.answer_bytes.specs.Sizes.{longestOtherAnswer}
 use Rattle.answer_bytes.specs.Writing.{WritesReply}
 use Rattle.answer_bytes.proofs.Arms.{matched}
-use Rattle.frames.specs.Answering.{IsLent, AnswersOperation, roomFor}
+use Rattle.frames.specs.Answering.{IsLent, AnswersOperation, longestAnswer, roomFor}
 
 -- ── a snapshot that stands from a byte on ──────────────────────────────────────────────────────
 
@@ -54,18 +55,18 @@ module _ {from : ℕ} {bs : List ℕ} (stands : StandsFrom from bs) where
 
 -- ── any operation ──────────────────────────────────────────────────────────────────────────────
 
--- room for a certificate is there whatever is asked
-pub at-least : (o : Option Operation) → 51 ≤ roomFor o
-at-least none = omega arith
-at-least (some (onAccount x)) = omega arith
-at-least (some takeSnapshot) = omega arith
-at-least (some certifyLedger) = omega arith
-at-least (some proveConservation) = omega arith
-at-least (some (restoreFrom s)) = omega arith
-at-least (some (recoverFrom s)) = omega arith
-at-least (some (judge s)) = omega arith
-at-least (some (migrateTo fence s)) = omega arith
-at-least (some (certify since s)) = omega arith
+-- room for a certificate is there whatever is asked, and no more than for a snapshot
+pub room-bounds : (o : Option Operation) → (longestOtherAnswer ≤ roomFor o) × (roomFor o ≤ longestAnswer)
+room-bounds none = (omega arith, omega arith)
+room-bounds (some (onAccount x)) = (omega arith, omega arith)
+room-bounds (some takeSnapshot) = (omega arith, omega arith)
+room-bounds (some certifyLedger) = (omega arith, omega arith)
+room-bounds (some proveConservation) = (omega arith, omega arith)
+room-bounds (some (restoreFrom s)) = (omega arith, omega arith)
+room-bounds (some (recoverFrom s)) = (omega arith, omega arith)
+room-bounds (some (judge s)) = (omega arith, omega arith)
+room-bounds (some (migrateTo fence s)) = (omega arith, omega arith)
+room-bounds (some (certify since s)) = (omega arith, omega arith)
 
 pub still-unsound : (o : Option Operation) → answerOr23 unsound o ≡ answered (answerOr23 unsound o .reply) unsound
 unfolding answer onLent
@@ -106,10 +107,10 @@ unlentTags = 9 ∷ 11 ∷ 13 ∷ 14 ∷ []
 
 module _ (bs : List ℕ) where
   -- the room of an operation on a snapshot that is not handed out
-  supplied-room : (operation : Snapshot → Operation) → ((s : Snapshot) → 51 ≡ roomFor (some (operation s))) → (from : ℕ) → 51 ≡ roomFor (supplied operation (snapshotOfBytes (drop from bs)))
-  supplied-room operation is from = by-option (λ o. 51 ≡ roomFor (supplied operation o)) (snapshotOfBytes (drop from bs)) (λ e. refl) (λ s e. is s)
+  supplied-room : (operation : Snapshot → Operation) → ((s : Snapshot) → longestOtherAnswer ≡ roomFor (some (operation s))) → (from : ℕ) → longestOtherAnswer ≡ roomFor (supplied operation (snapshotOfBytes (drop from bs)))
+  supplied-room operation is from = by-option (λ o. longestOtherAnswer ≡ roomFor (supplied operation o)) (snapshotOfBytes (drop from bs)) (λ e. refl) (λ s e. is s)
 
-  pub short-answer : (f : Frame) → IsOneOf shortTags f → 51 ≡ roomFor (operationIn bs f)
+  pub short-answer : (f : Frame) → IsOneOf shortTags f → longestOtherAnswer ≡ roomFor (operationIn bs f)
   short-answer (frame.Ensure end amount) h = refl
   short-answer (frame.TopUp end amount) h = refl
   short-answer (frame.Limit end amount) h = refl
@@ -121,12 +122,12 @@ module _ (bs : List ℕ) where
   short-answer frame.RecoveryRestore h = supplied-room recoverFrom (λ s. refl) 1
   short-answer (frame.Migrate fence) h = absurd (miss shortTags 9 tt h)
   short-answer frame.Certificate h = refl
-  short-answer (frame.CertificateOfSnapshot since) h = supplied-room (certify (since .0)) (λ s. refl) 9
+  short-answer (frame.CertificateOfSnapshot since) h = supplied-room (certify (since .0)) (λ s. refl) wordEnd
   short-answer frame.ConservationProof h = refl
   short-answer frame.Status h = supplied-room judge (λ s. refl) 1
   short-answer frame.BadFrame h = refl
 
-  -- "24 is given exactly when it isn't sound and 23 doesn't apply"
+  -- 24, of an operation that is one and asks for a ledger
   pub refuses : (f : Frame) → IsOneOf lentTags f → PartsWithin bs f → answerOr23 unsound (operationIn bs f) .reply ≡ replyOf UnsoundLedger
   unfolding answer onLent
   refuses (frame.Ensure end amount) h within = refl
@@ -145,7 +146,7 @@ module _ (bs : List ℕ) where
   refuses frame.Status h within = absurd (miss lentTags 13 tt h)
   refuses frame.BadFrame h within = absurd (miss lentTags 14 tt h)
 
-  -- "migration and judging a supplied snapshot take none": what is lent is no matter, and stays
+  -- no ledger is asked for: what is lent is no matter, and stays
   module _ (l : Lent) where
     no-matter : (operation : Snapshot → Operation) → ((s : Snapshot) → answer l (operation s) ≡ answered (answer unsound (operation s) .reply) l)
         → (from : ℕ) → let o = supplied operation (snapshotOfBytes (drop from bs)) in answerOr23 l o ≡ answered (answerOr23 unsound o .reply) l
@@ -163,9 +164,9 @@ module _ (bs : List ℕ) where
     takes-none frame.Snapshot h = absurd (miss unlentTags 6 tt h)
     takes-none frame.Restore h = absurd (miss unlentTags 7 tt h)
     takes-none frame.RecoveryRestore h = absurd (miss unlentTags 8 tt h)
-    takes-none (frame.Migrate fence) h = no-matter (migrateTo fence) (λ s. refl) 9
+    takes-none (frame.Migrate fence) h = no-matter (migrateTo fence) (λ s. refl) wordEnd
     takes-none frame.Certificate h = absurd (miss unlentTags 10 tt h)
-    takes-none (frame.CertificateOfSnapshot since) h = no-matter (certify (since .0)) (λ s. refl) 9
+    takes-none (frame.CertificateOfSnapshot since) h = no-matter (certify (since .0)) (λ s. refl) wordEnd
     takes-none frame.ConservationProof h = absurd (miss unlentTags 12 tt h)
     takes-none frame.Status h = no-matter judge (λ s. refl) 1
     takes-none frame.BadFrame h = refl

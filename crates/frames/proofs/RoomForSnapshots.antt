@@ -12,7 +12,7 @@ use lib.Dec.{eqb}
 use lib.ListN.{length}
 use Rattle.rules.specs.RoomAndSoundLedger.{M, Ledger, Sound}
 use Rattle.rules.specs.AnswerNumbers.{SnapshotBytes, Reply, Refusal, AllocatorExhausted, done, replyOf, Outcome}
-use Rattle.rules.specs.SnapshotsMigrationCertificates.{Snapshot, snapshotBytes, hasLongName, snapshotOf, takingSnapshot, tooShortFor, handedOut, snapshot, _gives_else_, tagged, withVersion, replyOr, migrate}
+use Rattle.rules.specs.SnapshotsMigrationCertificates.{Snapshot, snapshotBytes, hasLongName, snapshotOf, takingSnapshot, tooShortFor, handedOut, snapshot, _gives_else_, tagged, withVersion, replyOr, migrate, mostRows}
 use Rattle.rules.specs.Frames.{longestSnapshot}
 use Rattle.rules.proofs.Tests.{by-test, by-bool}
 use Rattle.rules.proofs.SnapshotBytes.{never-too-short}
@@ -23,15 +23,12 @@ use Rattle.snapshot_writer.specs.declared.Snapshotted.{Snapshotted}
 use Rattle.snapshot_writer.specs.declared.Snapshotted.the-variants as snapshotted
 use Rattle.snapshot_writer.proofs.Snapshotted.{enum}
 
-longest-is : longestSnapshot ≡ 14610
-longest-is = refl
-
-module _ {size : ℕ} (long : 14610 ≤ size) where
+module _ {size : ℕ} (long : longestSnapshot ≤ size) where
   enough : (s : Snapshot) → tooShortFor longestSnapshot s ≡ false → tooShortFor size s ≡ tooShortFor longestSnapshot s
-  enough s fits = le-ltb size (length (snapshotBytes s)) (omega (arith, longest-is, ltb-false longestSnapshot (length (snapshotBytes s)) fits)) ∙ sym fits
+  enough s fits = le-ltb size (length (snapshotBytes s)) (omega (arith, ltb-false longestSnapshot (length (snapshotBytes s)) fits)) ∙ sym fits
 
   -- with a long name both are 19 first
-  pub same-migration : (fence : ℕ) (s : Snapshot) → length (s .rows) ≤ 256 → migrate size fence s ≡ migrate longestSnapshot fence s
+  pub same-migration : (fence : ℕ) (s : Snapshot) → length (s .rows) ≤ mostRows → migrate size fence s ≡ migrate longestSnapshot fence s
   unfolding migrate _gives_else_
   same-migration fence s few =
       by-bool (λ b. hasLongName (s .rows) ≡ b → migrate size fence s ≡ migrate longestSnapshot fence s) (hasLongName (s .rows))

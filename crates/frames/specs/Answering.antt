@@ -3,11 +3,15 @@ use mathlib.Core.Path.{_≡_}
 use mathlib.Core.Bool.{Bool, true, false}
 use mathlib.Core.List.{List}
 use mathlib.Core.Option.{Option, none, some}
-use Prim.Native.Nat.{ℕ}
+use Prim.Native.Nat.{ℕ, _+_, _≤_}
+use lib.ListN.{length}
 use Rattle.rules.specs.RoomAndSoundLedger.{Ledger}
 use Rattle.rules.specs.AnswerNumbers.{Lent, sound, unsound}
-use Rattle.rules.specs.Frames.{Operation, onAccount, takeSnapshot, certifyLedger, proveConservation, restoreFrom, recoverFrom, judge, migrateTo, certify, answerOr23}
+use Rattle.rules.specs.Frames.{Operation, onAccount, takeSnapshot, certifyLedger, proveConservation, restoreFrom, recoverFrom, judge, migrateTo, certify, longestSnapshot, answerOr23}
 use Rattle.room.specs.Room.{IsRoom, OfRoom, SoundRoom}
+use Rattle.frame_reader.specs.declared.Frame.{Frame}
+use Rattle.frame_reader.specs.Operations.{operationIn, PartsWithin}
+use Rattle.answer_bytes.specs.Sizes.{longestOtherAnswer}
 use Rattle.answer_bytes.specs.Writing.{WritesReply}
 
 -- memory that is what is lent: the room of a sound ledger, or of none
@@ -30,18 +34,36 @@ pub record AnswersOperation (o : Option Operation) (l : Lent) (before after outp
   pub lent : IsLent after (answerOr23 l o .lent)
   pub untouched : l ≡ unsound → after ≡ before
 
--- how many bytes the longest answer to an operation takes: the number and a snapshot, or the number and what a certificate carries
+-- the same, of the room of whatever sound ledger
+abbrev pub AnswersInRoom : Option Operation → (before after output-before output-after : List ℕ) → (written : ℕ) → Type 0
+AnswersInRoom o before after output-before output-after written = OfRoom before (λ L. AnswersOperation o (sound L) before after output-before output-after written)
+
+-- and of whatever memory
+abbrev pub PromisesAnswer : Option Operation → (before after output-before output-after : List ℕ) → (written : ℕ) → Type 0
+PromisesAnswer o before after output-before output-after written = OfLent before (λ l. AnswersOperation o l before after output-before output-after written)
+
+-- ── the room for an answer ─────────────────────────────────────────────────────────────────────
+
+-- the number and a snapshot
+abbrev pub longestAnswer : ℕ
+longestAnswer = 1 + longestSnapshot
+
+-- how many bytes the longest answer to an operation takes
 abbrev pub roomForOperation : Operation → ℕ
-roomForOperation (onAccount x) = 51
-roomForOperation takeSnapshot = 14611
-roomForOperation certifyLedger = 51
-roomForOperation proveConservation = 51
-roomForOperation (restoreFrom s) = 51
-roomForOperation (recoverFrom s) = 51
-roomForOperation (judge s) = 51
-roomForOperation (migrateTo fence s) = 14611
-roomForOperation (certify since s) = 51
+roomForOperation (onAccount x) = longestOtherAnswer
+roomForOperation takeSnapshot = longestAnswer
+roomForOperation certifyLedger = longestOtherAnswer
+roomForOperation proveConservation = longestOtherAnswer
+roomForOperation (restoreFrom s) = longestOtherAnswer
+roomForOperation (recoverFrom s) = longestOtherAnswer
+roomForOperation (judge s) = longestOtherAnswer
+roomForOperation (migrateTo fence s) = longestAnswer
+roomForOperation (certify since s) = longestOtherAnswer
 
 abbrev pub roomFor : Option Operation → ℕ
-roomFor none = 51
+roomFor none = longestOtherAnswer
 roomFor (some x) = roomForOperation x
+
+-- a frame that was read from these bytes, and output with room for its longest answer
+abbrev pub Answerable : (bytes : List ℕ) → Frame → (output : List ℕ) → Type 0
+Answerable bytes f output = PartsWithin bytes f × (roomFor (operationIn bytes f) ≤ length output)

@@ -1,7 +1,10 @@
 // A frame's bytes to its answer's bytes. What is known of the memory is handed in: a batch asks once whether it is the room of a sound ledger.
+use answer_bytes::LONGEST_OTHER_ANSWER;
+use frame_reader::Frame;
+use frame_reader::NAME_START;
+use frame_reader::WORD_END;
 use numbers::Identifier;
 use numbers::Microcents;
-use frame_reader::Frame;
 use snapshot_writer::Snapshotted;
 use validation::Verdict;
 ghost use mathlib.Core.Path.{_≡_};
@@ -9,59 +12,77 @@ ghost use mathlib.Core.Option.{some};
 ghost use mathlib.Core.List.{List};
 ghost use Prim.Native.Nat.{ℕ, _≤_};
 ghost use lib.ListN.{length};
-ghost use Rattle.rules.specs.AnswerNumbers.{sound, unsound};
+ghost use Rattle.rules.specs.AnswerNumbers.{unsound};
 ghost use Rattle.rules.specs.AccountRules.{ensure, topUp, limit, reserve, commit, release};
 ghost use Rattle.rules.specs.SnapshotsMigrationCertificates.{Snapshot, migrate, status, certificateOfSnapshot};
 ghost use Rattle.rules.specs.Frames.{onAccount, takeSnapshot, certifyLedger, proveConservation, restoreFrom, recoverFrom, longestSnapshot, answerOr23};
 ghost use Rattle.snapshot_reader.specs.Standing.{IsSnapshot, OfSnapshot};
 ghost use Rattle.frame_reader.specs.Operations.{operationIn, PartsWithin};
+ghost use Rattle.answer_bytes.specs.Sizes.{longestOtherAnswer};
 ghost use Rattle.answer_bytes.specs.Writing.{WritesReply};
-ghost use Rattle.room.specs.Room.{SoundRoom, OfRoom};
-ghost use Rattle.frames.specs.Answering.{Known, AnswersOperation, roomFor, OfLent};
+ghost use Rattle.room.specs.Room.{SoundRoom};
+ghost use Rattle.frames.specs.Answering.{Known, AnswersInRoom, PromisesAnswer, longestAnswer, roomFor, Answerable};
+
+// A snapshot behind its number: only a snapshot and a migration hand one out.
+pub const LONGEST_ANSWER: usize = 1 + rules::LONGEST_SNAPSHOT;
+
+// A migration and a certificate have the longest frames: the code, a word, a snapshot.
+pub const LONGEST_FRAME: usize = WORD_END + rules::LONGEST_SNAPSHOT;
+
+// Two characters a byte; an answer line has its line feed too.
+pub const LONGEST_LINE: usize = LONGEST_FRAME + LONGEST_FRAME;
+
+pub const LONGEST_OTHER_LINE: usize = LONGEST_OTHER_ANSWER + LONGEST_OTHER_ANSWER + 1;
 
 fn ensure(room: &mut [u8], name: &[u8], amount: Microcents, output: &mut [u8]) -> usize
-    requires { ⌜ SoundRoom (now room) × (51 ≤ length (now output)) ⌝ }
-    ensures { λ r. ⌜ OfRoom (now (room .entry)) (λ L. AnswersOperation (some (onAccount (ensure (now (name .entry)) (amount .0)))) (sound L) (now (room .entry)) (now (room .exit)) (now (output .entry)) (now (output .exit)) r) ⌝ }
+    requires { ⌜ SoundRoom (now room) × (longestOtherAnswer ≤ length (now output)) ⌝ }
+    ensures { λ r. ⌜ AnswersInRoom (some (onAccount (ensure (now (name .entry)) (amount .0))))
+        (now (room .entry)) (now (room .exit)) (now (output .entry)) (now (output .exit)) r ⌝ }
 {
     let answer = accounts::ensure(room, name, amount);
     account_answers::write_ensured(output, answer)
 }
 
 fn top_up(room: &mut [u8], name: &[u8], amount: Microcents, output: &mut [u8]) -> usize
-    requires { ⌜ SoundRoom (now room) × (51 ≤ length (now output)) ⌝ }
-    ensures { λ r. ⌜ OfRoom (now (room .entry)) (λ L. AnswersOperation (some (onAccount (topUp (now (name .entry)) (amount .0)))) (sound L) (now (room .entry)) (now (room .exit)) (now (output .entry)) (now (output .exit)) r) ⌝ }
+    requires { ⌜ SoundRoom (now room) × (longestOtherAnswer ≤ length (now output)) ⌝ }
+    ensures { λ r. ⌜ AnswersInRoom (some (onAccount (topUp (now (name .entry)) (amount .0))))
+        (now (room .entry)) (now (room .exit)) (now (output .entry)) (now (output .exit)) r ⌝ }
 {
     let answer = accounts::top_up(room, name, amount);
     account_answers::write_topped_up(output, answer)
 }
 
 fn limit(room: &mut [u8], name: &[u8], amount: Microcents, output: &mut [u8]) -> usize
-    requires { ⌜ SoundRoom (now room) × (51 ≤ length (now output)) ⌝ }
-    ensures { λ r. ⌜ OfRoom (now (room .entry)) (λ L. AnswersOperation (some (onAccount (limit (now (name .entry)) (amount .0)))) (sound L) (now (room .entry)) (now (room .exit)) (now (output .entry)) (now (output .exit)) r) ⌝ }
+    requires { ⌜ SoundRoom (now room) × (longestOtherAnswer ≤ length (now output)) ⌝ }
+    ensures { λ r. ⌜ AnswersInRoom (some (onAccount (limit (now (name .entry)) (amount .0))))
+        (now (room .entry)) (now (room .exit)) (now (output .entry)) (now (output .exit)) r ⌝ }
 {
     let answer = accounts::limit(room, name, amount);
     account_answers::write_limited(output, answer)
 }
 
 fn reserve(room: &mut [u8], name: &[u8], cost: Microcents, output: &mut [u8]) -> usize
-    requires { ⌜ SoundRoom (now room) × (51 ≤ length (now output)) ⌝ }
-    ensures { λ r. ⌜ OfRoom (now (room .entry)) (λ L. AnswersOperation (some (onAccount (reserve (now (name .entry)) (cost .0)))) (sound L) (now (room .entry)) (now (room .exit)) (now (output .entry)) (now (output .exit)) r) ⌝ }
+    requires { ⌜ SoundRoom (now room) × (longestOtherAnswer ≤ length (now output)) ⌝ }
+    ensures { λ r. ⌜ AnswersInRoom (some (onAccount (reserve (now (name .entry)) (cost .0))))
+        (now (room .entry)) (now (room .exit)) (now (output .entry)) (now (output .exit)) r ⌝ }
 {
     let answer = reservations::reserve(room, name, cost);
     account_answers::write_reserved(output, answer)
 }
 
 fn commit(room: &mut [u8], id: Identifier, actual: Microcents, output: &mut [u8]) -> usize
-    requires { ⌜ SoundRoom (now room) × (51 ≤ length (now output)) ⌝ }
-    ensures { λ r. ⌜ OfRoom (now (room .entry)) (λ L. AnswersOperation (some (onAccount (commit (id .0) (actual .0)))) (sound L) (now (room .entry)) (now (room .exit)) (now (output .entry)) (now (output .exit)) r) ⌝ }
+    requires { ⌜ SoundRoom (now room) × (longestOtherAnswer ≤ length (now output)) ⌝ }
+    ensures { λ r. ⌜ AnswersInRoom (some (onAccount (commit (id .0) (actual .0))))
+        (now (room .entry)) (now (room .exit)) (now (output .entry)) (now (output .exit)) r ⌝ }
 {
     let answer = reservations::commit(room, id, actual);
     account_answers::write_committed(output, answer)
 }
 
 fn release(room: &mut [u8], id: Identifier, output: &mut [u8]) -> usize
-    requires { ⌜ SoundRoom (now room) × (51 ≤ length (now output)) ⌝ }
-    ensures { λ r. ⌜ OfRoom (now (room .entry)) (λ L. AnswersOperation (some (onAccount (release (id .0)))) (sound L) (now (room .entry)) (now (room .exit)) (now (output .entry)) (now (output .exit)) r) ⌝ }
+    requires { ⌜ SoundRoom (now room) × (longestOtherAnswer ≤ length (now output)) ⌝ }
+    ensures { λ r. ⌜ AnswersInRoom (some (onAccount (release (id .0))))
+        (now (room .entry)) (now (room .exit)) (now (output .entry)) (now (output .exit)) r ⌝ }
 {
     let answer = reservations::release(room, id);
     account_answers::write_released(output, answer)
@@ -69,8 +90,9 @@ fn release(room: &mut [u8], id: Identifier, output: &mut [u8]) -> usize
 
 // The snapshot is written behind the answer's number, where it stays.
 fn snapshot(room: &mut [u8], output: &mut [u8]) -> usize
-    requires { ⌜ SoundRoom (now room) × (14611 ≤ length (now output)) ⌝ }
-    ensures { λ r. ⌜ OfRoom (now (room .entry)) (λ L. AnswersOperation (some takeSnapshot) (sound L) (now (room .entry)) (now (room .exit)) (now (output .entry)) (now (output .exit)) r) ⌝ }
+    requires { ⌜ SoundRoom (now room) × (longestAnswer ≤ length (now output)) ⌝ }
+    ensures { λ r. ⌜ AnswersInRoom (some takeSnapshot)
+        (now (room .entry)) (now (room .exit)) (now (output .entry)) (now (output .exit)) r ⌝ }
 {
     let Snapshotted::Written(size) = snapshot_writer::snapshot(room, &mut output[1..]) else {
         return answer_bytes::write_number(output, 9);
@@ -80,41 +102,46 @@ fn snapshot(room: &mut [u8], output: &mut [u8]) -> usize
 }
 
 fn restore(room: &mut [u8], bytes: &[u8], output: &mut [u8]) -> usize
-    requires { ⌜ SoundRoom (now room) × IsSnapshot (now bytes) × (51 ≤ length (now output)) ⌝ }
-    ensures { λ r. ⌜ OfRoom (now (room .entry)) (λ L. OfSnapshot (now (bytes .entry)) (λ s. AnswersOperation (some (restoreFrom s)) (sound L) (now (room .entry)) (now (room .exit)) (now (output .entry)) (now (output .exit)) r)) ⌝ }
+    requires { ⌜ SoundRoom (now room) × IsSnapshot (now bytes) × (longestOtherAnswer ≤ length (now output)) ⌝ }
+    ensures { λ r. ⌜ OfSnapshot (now (bytes .entry)) (λ s. AnswersInRoom (some (restoreFrom s))
+        (now (room .entry)) (now (room .exit)) (now (output .entry)) (now (output .exit)) r) ⌝ }
 {
     let judged = restoring::restore(room, bytes);
     snapshot_answers::write_judged(output, judged)
 }
 
 fn recovery_restore(room: &mut [u8], bytes: &[u8], output: &mut [u8]) -> usize
-    requires { ⌜ SoundRoom (now room) × IsSnapshot (now bytes) × (51 ≤ length (now output)) ⌝ }
-    ensures { λ r. ⌜ OfRoom (now (room .entry)) (λ L. OfSnapshot (now (bytes .entry)) (λ s. AnswersOperation (some (recoverFrom s)) (sound L) (now (room .entry)) (now (room .exit)) (now (output .entry)) (now (output .exit)) r)) ⌝ }
+    requires { ⌜ SoundRoom (now room) × IsSnapshot (now bytes) × (longestOtherAnswer ≤ length (now output)) ⌝ }
+    ensures { λ r. ⌜ OfSnapshot (now (bytes .entry)) (λ s. AnswersInRoom (some (recoverFrom s))
+        (now (room .entry)) (now (room .exit)) (now (output .entry)) (now (output .exit)) r) ⌝ }
 {
     let judged = restoring::recovery_restore(room, bytes);
     snapshot_answers::write_judged(output, judged)
 }
 
 fn certificate(room: &mut [u8], output: &mut [u8]) -> usize
-    requires { ⌜ SoundRoom (now room) × (51 ≤ length (now output)) ⌝ }
-    ensures { λ r. ⌜ OfRoom (now (room .entry)) (λ L. AnswersOperation (some certifyLedger) (sound L) (now (room .entry)) (now (room .exit)) (now (output .entry)) (now (output .exit)) r) ⌝ }
+    requires { ⌜ SoundRoom (now room) × (longestOtherAnswer ≤ length (now output)) ⌝ }
+    ensures { λ r. ⌜ AnswersInRoom (some certifyLedger)
+        (now (room .entry)) (now (room .exit)) (now (output .entry)) (now (output .exit)) r ⌝ }
 {
     let certified = certificates::of_ledger(room);
     snapshot_answers::write_certified(output, certified)
 }
 
 fn conservation_proof(room: &mut [u8], output: &mut [u8]) -> usize
-    requires { ⌜ SoundRoom (now room) × (51 ≤ length (now output)) ⌝ }
-    ensures { λ r. ⌜ OfRoom (now (room .entry)) (λ L. AnswersOperation (some proveConservation) (sound L) (now (room .entry)) (now (room .exit)) (now (output .entry)) (now (output .exit)) r) ⌝ }
+    requires { ⌜ SoundRoom (now room) × (longestOtherAnswer ≤ length (now output)) ⌝ }
+    ensures { λ r. ⌜ AnswersInRoom (some proveConservation)
+        (now (room .entry)) (now (room .exit)) (now (output .entry)) (now (output .exit)) r ⌝ }
 {
     let proved = certificates::prove(room);
     snapshot_answers::write_proved(output, proved)
 }
 
-// "migration and judging a supplied snapshot take none": no ledger is lent from here on.
+// What follows takes no ledger: a migration, and the judging of a snapshot that comes with its frame.
 fn migrate(bytes: &[u8], fence: u64, output: &mut [u8]) -> usize
-    requires { ⌜ IsSnapshot (now bytes) × (14611 ≤ length (now output)) ⌝ }
-    ensures { λ r. ⌜ OfSnapshot (now (bytes .entry)) (λ s. WritesReply (migrate longestSnapshot fence s) (now (output .entry)) (now (output .exit)) r) ⌝ }
+    requires { ⌜ IsSnapshot (now bytes) × (longestAnswer ≤ length (now output)) ⌝ }
+    ensures { λ r. ⌜ OfSnapshot (now (bytes .entry)) (λ s. WritesReply (migrate longestSnapshot fence s)
+        (now (output .entry)) (now (output .exit)) r) ⌝ }
 {
     let judged = migration::migrate(bytes, fence, &mut output[1..]);
     let verdict = judged.verdict;
@@ -126,15 +153,16 @@ fn migrate(bytes: &[u8], fence: u64, output: &mut [u8]) -> usize
 }
 
 fn certificate_of_snapshot(bytes: &[u8], since: Microcents, output: &mut [u8]) -> usize
-    requires { ⌜ IsSnapshot (now bytes) × (51 ≤ length (now output)) ⌝ }
-    ensures { λ r. ⌜ OfSnapshot (now (bytes .entry)) (λ s. WritesReply (certificateOfSnapshot (since .0) s) (now (output .entry)) (now (output .exit)) r) ⌝ }
+    requires { ⌜ IsSnapshot (now bytes) × (longestOtherAnswer ≤ length (now output)) ⌝ }
+    ensures { λ r. ⌜ OfSnapshot (now (bytes .entry)) (λ s. WritesReply (certificateOfSnapshot (since .0) s)
+        (now (output .entry)) (now (output .exit)) r) ⌝ }
 {
     let certified = certificates::of_supplied(bytes, since);
     snapshot_answers::write_certified(output, certified)
 }
 
 fn status(bytes: &[u8], output: &mut [u8]) -> usize
-    requires { ⌜ IsSnapshot (now bytes) × (51 ≤ length (now output)) ⌝ }
+    requires { ⌜ IsSnapshot (now bytes) × (longestOtherAnswer ≤ length (now output)) ⌝ }
     ensures { λ r. ⌜ OfSnapshot (now (bytes .entry)) (λ s. WritesReply (status s) (now (output .entry)) (now (output .exit)) r) ⌝ }
 {
     let judged = validation::status(bytes);
@@ -146,20 +174,26 @@ pub fn room_for(frame: Frame) -> usize
     ensures { λ r. ⌜ ((bytes : List ℕ) → PartsWithin bytes frame → r ≡ roomFor (operationIn bytes frame)) ⌝ }
 {
     match frame {
-        Frame::Snapshot => 14611,
-        Frame::Migrate(_fence) => 14611,
-        _ => 51,
+        Frame::Snapshot => LONGEST_ANSWER,
+        Frame::Migrate(_fence) => LONGEST_ANSWER,
+        _ => LONGEST_OTHER_ANSWER,
     }
 }
 
-// A frame that takes no ledger, or that is lent none that is sound: "24 is given exactly when it isn't sound and 23 doesn't apply", where a ledger is lent.
+// A frame that takes no ledger, or that is lent none that is sound: then 24 answers all that asks for one and 23 comes before it (document 01, "Answer
+// numbers").
 fn without_ledger(bytes: &[u8], frame: Frame, output: &mut [u8]) -> usize
-    requires { ⌜ PartsWithin (now bytes) frame × (roomFor (operationIn (now bytes) frame) ≤ length (now output)) ⌝ }
-    ensures { λ r. ⌜ WritesReply (answerOr23 unsound (operationIn (now (bytes .entry)) frame) .reply) (now (output .entry)) (now (output .exit)) r ⌝ }
+    requires { ⌜ Answerable (now bytes) frame (now output) ⌝ }
+    ensures { λ r. ⌜ WritesReply (answerOr23 unsound (operationIn (now (bytes .entry)) frame) .reply)
+        (now (output .entry)) (now (output .exit)) r ⌝ }
 {
     match frame {
-        Frame::Migrate(fence) => migrate(&bytes[9..], fence, output),
-        Frame::CertificateOfSnapshot(since) => certificate_of_snapshot(&bytes[9..], since, output),
+        Frame::Migrate(fence) => migrate(&bytes[WORD_END..], fence, output),
+        Frame::CertificateOfSnapshot(since) => certificate_of_snapshot(
+            &bytes[WORD_END..],
+            since,
+            output,
+        ),
         Frame::Status => status(&bytes[1..], output),
         Frame::BadFrame => answer_bytes::write_number(output, 23),
         _ => answer_bytes::write_number(output, 24),
@@ -168,14 +202,15 @@ fn without_ledger(bytes: &[u8], frame: Frame, output: &mut [u8]) -> usize
 
 // A frame on a ledger known to be sound.
 fn perform(room: &mut [u8], bytes: &[u8], frame: Frame, output: &mut [u8]) -> usize
-    requires { ⌜ SoundRoom (now room) × PartsWithin (now bytes) frame × (roomFor (operationIn (now bytes) frame) ≤ length (now output)) ⌝ }
-    ensures { λ r. ⌜ OfRoom (now (room .entry)) (λ L. AnswersOperation (operationIn (now (bytes .entry)) frame) (sound L) (now (room .entry)) (now (room .exit)) (now (output .entry)) (now (output .exit)) r) ⌝ }
+    requires { ⌜ SoundRoom (now room) × Answerable (now bytes) frame (now output) ⌝ }
+    ensures { λ r. ⌜ AnswersInRoom (operationIn (now (bytes .entry)) frame)
+        (now (room .entry)) (now (room .exit)) (now (output .entry)) (now (output .exit)) r ⌝ }
 {
     match frame {
-        Frame::Ensure(end, amount) => ensure(room, &bytes[2..end], amount, output),
-        Frame::TopUp(end, amount) => top_up(room, &bytes[2..end], amount, output),
-        Frame::Limit(end, amount) => limit(room, &bytes[2..end], amount, output),
-        Frame::Reserve(end, amount) => reserve(room, &bytes[2..end], amount, output),
+        Frame::Ensure(end, amount) => ensure(room, &bytes[NAME_START..end], amount, output),
+        Frame::TopUp(end, amount) => top_up(room, &bytes[NAME_START..end], amount, output),
+        Frame::Limit(end, amount) => limit(room, &bytes[NAME_START..end], amount, output),
+        Frame::Reserve(end, amount) => reserve(room, &bytes[NAME_START..end], amount, output),
         Frame::Commit(id, amount) => commit(room, id, amount, output),
         Frame::Release(id) => release(room, id, output),
         Frame::Snapshot => snapshot(room, output),
@@ -189,8 +224,9 @@ fn perform(room: &mut [u8], bytes: &[u8], frame: Frame, output: &mut [u8]) -> us
 
 // A frame that was read from these bytes, on memory of which it is known whether it is the room of a sound ledger.
 pub fn answer(room: &mut [u8], known: bool, bytes: &[u8], frame: Frame, output: &mut [u8]) -> usize
-    requires { ⌜ Known known (now room) × PartsWithin (now bytes) frame × (roomFor (operationIn (now bytes) frame) ≤ length (now output)) ⌝ }
-    ensures { λ r. ⌜ OfLent (now (room .entry)) (λ l. AnswersOperation (operationIn (now (bytes .entry)) frame) l (now (room .entry)) (now (room .exit)) (now (output .entry)) (now (output .exit)) r) ⌝ }
+    requires { ⌜ Known known (now room) × Answerable (now bytes) frame (now output) ⌝ }
+    ensures { λ r. ⌜ PromisesAnswer (operationIn (now (bytes .entry)) frame)
+        (now (room .entry)) (now (room .exit)) (now (output .entry)) (now (output .exit)) r ⌝ }
 {
     if known {
         return perform(room, bytes, frame, output);

@@ -1,9 +1,10 @@
 // Reading, answering and writing, turn by turn.
+use lines::LINE_FEED;
 use lines::LineEnd;
-ghost use mathlib.Core.Path.{_≡_};
-ghost use Prim.Native.Nat.{_≤_, _<_};
 ghost use lib.ListN.{length};
+ghost use mathlib.Core.Path.{_≡_};
 ghost use Rattle.house.specs.Desk.{UsedWithin};
+ghost use Prim.Native.Nat.{_≤_, _<_};
 
 // So many bytes at the front of the input are held: the beginning of a line. A line longer than the input has been answered, and is passed over to its end.
 struct Desk {
@@ -71,7 +72,8 @@ fn keep(input: &mut [u8], from: usize, end: usize) -> usize
     to
 }
 
-// The bytes from here on were read and not yet answered. Where they fill the input, no line feed is among them: "a longer one gets one 23".
+// The bytes from here on were read and not yet answered. Where they fill the input, no line feed is among them: so long a line is no frame, and its 23 is
+// written at once.
 fn settle(room: &mut [u8], input: &mut [u8], from: usize, end: usize, output: &mut [u8]) -> Desk
     requires { ⌜ (from ≤ end) × (end ≤ length (now input)) × (0 < length (now input)) ⌝ }
     ensures { λ r. ⌜ r .held < length (now (input .entry)) ⌝ }
@@ -95,14 +97,14 @@ fn settle(room: &mut [u8], input: &mut [u8], from: usize, end: usize, output: &m
     }
 }
 
-// "A last line without a line feed counts unless empty."
+// What the input ends with, when it ends in no line feed, is a line too; nothing is none.
 fn close(room: &mut [u8], input: &mut [u8], held: usize, output: &mut [u8])
     requires { ⌜ held < length (now input) ⌝ }
 {
     if held == 0 {
         return;
     }
-    input[held] = 10;
+    input[held] = LINE_FEED;
     let end = held + 1;
     answer_lines(room, &input[..end], output);
 }

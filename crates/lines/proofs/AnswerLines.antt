@@ -8,24 +8,12 @@ use native.Mathlib.Omega.{arith}
 use lib.ListN.{length, getD, take, drop, set, length-append, take-append-drop}
 use lib.Seq.{drop-cons, drop-drop, drop-append-add, drop-append-le, set-at, take-at, length-take-le}
 use Rattle.rules.specs.AnswerNumbers.{Lent, sound, unsound, Reply}
-use Rattle.rules.specs.Frames.{Operation, onAccount, takeSnapshot, certifyLedger, proveConservation, restoreFrom, recoverFrom, judge, migrateTo, certify, lineFeed, replyBytes, lineOfBytes, answerLine, answerOr23}
+use Rattle.rules.specs.Frames.{Operation, lineFeed, replyBytes, lineOfBytes, answerLine, answerOr23}
 use Rattle.room.specs.Room.{SoundRoom}
 use Rattle.soundness.specs.Facts.{Decides}
 use Rattle.answer_bytes.specs.Writing.{WritesReply}
-use Rattle.frames.specs.Answering.{IsLent, Known, AnswersOperation, roomFor}
+use Rattle.frames.specs.Answering.{IsLent, Known, AnswersOperation}
 use Rattle.lines.specs.Batching.{AnswersLine}
-
-pub room-bound : (o : Option Operation) → roomFor o ≤ 14611
-room-bound none = omega arith
-room-bound (some (onAccount x)) = omega arith
-room-bound (some takeSnapshot) = omega arith
-room-bound (some certifyLedger) = omega arith
-room-bound (some proveConservation) = omega arith
-room-bound (some (restoreFrom s)) = omega arith
-room-bound (some (recoverFrom s)) = omega arith
-room-bound (some (judge s)) = omega arith
-room-bound (some (migrateTo fence s)) = omega arith
-room-bound (some (certify since s)) = omega arith
 
 -- what the check finds is what is known of the memory
 pub found : (known : Bool) {memory : List ℕ} → Decides (SoundRoom memory) known → Known known memory

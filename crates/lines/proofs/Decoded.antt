@@ -7,7 +7,7 @@ use native.Mathlib.Omega.{arith}
 use borrow.Author.Tests.{lt-ltb, le-ltb}
 use lib.ListN.{length, take, drop, length-append}
 use lib.Seq.{take-at}
-use Rattle.rules.specs.Frames.{bytesOfLine, operationOfLine, operationOfBytes}
+use Rattle.rules.specs.Frames.{longestLine, bytesOfLine, operationOfLine, operationOfBytes}
 use Rattle.digits.specs.declared.Decoded.{Decoded}
 use Rattle.digits.specs.declared.Decoded.the-variants.{Bytes, BadFrame}
 use Rattle.digits.specs.Decoding.{Decodes}
@@ -32,11 +32,11 @@ module _ (before after : List ℕ) {r : Decoded} where
   has-none (some bs) d e = absurd (let z : _≡_ {A = ℕ} 0 1 = cc in omega arith)
 
 module _ (line : List ℕ) where
-  pub too-long : 29238 < length line → operationOfLine line ≡ none
+  pub too-long : longestLine < length line → operationOfLine line ≡ none
   unfolding operationOfLine
-  too-long long = rw (lt-ltb 29238 (length line) long)
+  too-long long = rw (lt-ltb longestLine (length line) long)
 
-  module _ (short : length line ≤ 29238) where
+  module _ (short : length line ≤ longestLine) where
     pub operation-is : {bytes : Option (List ℕ)} → bytesOfLine line ≡ bytes → operationOfLine line ≡ operationOfBytes bytes
     unfolding operationOfLine
-    operation-is {bytes} e = rw (le-ltb 29238 (length line) short, e)
+    operation-is {bytes} e = rw (le-ltb longestLine (length line) short, e)

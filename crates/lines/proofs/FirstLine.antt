@@ -8,13 +8,11 @@ use native.Mathlib.Omega.{arith}
 use lib.ListN.{length, take, drop, take-append-drop}
 use lib.Seq.{take-add, take-take, length-take-le}
 use Rattle.rules.specs.Lists.{All}
-use Rattle.rules.specs.AnswerNumbers.{Lent}
-use Rattle.rules.specs.Frames.{Operation, lineFeed, digitOf, byteBefore, bytesOfLine, operationOf, operationOfLine}
+use Rattle.rules.specs.Frames.{Operation, longestLine, lineFeed, digitOf, byteBefore, bytesOfLine, operationOf, operationOfLine}
 use Rattle.digits.specs.Decoding.{FrontDecoded}
 use Rattle.digits.proofs.Decoding.{wrong-pair}
 use Rattle.soundness.proofs.Deciding.{less-or-not}
-use Rattle.frames.specs.Answering.{IsLent}
-use Rattle.lines.specs.Batching.{IsLine, FirstFeed, FirstLine, LineAnswered, nextOf, NextFound, NextAnswered}
+use Rattle.lines.specs.Batching.{IsLine, FirstFeed, FirstLine, PromisesLine, nextOf, NextFound, PromisesNext}
 use Rattle.lines.specs.declared.LineAnswer.{LineAnswer}
 use Rattle.lines.specs.declared.LineAnswer.the-variants as answered
 use Rattle.lines.specs.declared.LineEnd.the-variants as found
@@ -62,24 +60,24 @@ module _ (input : List ℕ) (limit : ℕ) (within : limit ≤ length input) {bef
   pub front-line : IsLine (take (size + size) input)
   front-line = no-feed (take (size + size) input) (λ e. let z : _≡_ {A = ℕ} 0 1 = cc (e, front-bytes) in omega arith)
 
-  pub is-frame : limit ≤ 29238 → operationOfLine (take (size + size) input) ≡ operationOf (take size after)
+  pub is-frame : limit ≤ longestLine → operationOfLine (take (size + size) input) ≡ operationOf (take size after)
   is-frame short = operation-is (take (size + size) input) (omega (arith, f .within, long, length-take-le (size + size) input (omega (arith, f .within, long)))) front-bytes
 
-  pub no-frame : ((end : ℕ) → end ≤ length input → end ≤ 29238 → end ≤ limit) → (end : ℕ) → size + size < end → end ≤ length input → operationOfLine (take end input) ≡ none
+  pub no-frame : ((end : ℕ) → end ≤ length input → end ≤ longestLine → end ≤ limit) → (end : ℕ) → size + size < end → end ≤ length input → operationOfLine (take end input) ≡ none
   no-frame reaches end behind inside =
       let line-length : length (take end input) ≡ end = length-take-le end input inside in
       ⊎-elim (λ over. too-long (take end input) (omega (arith, line-length)))
       (λ short. operation-is (take end input) (omega (arith, line-length))
       (ap bytesOfLine (sym (take-take end limit input (reaches end inside short))) ∙ f .no-frame end behind (omega (arith, long, reaches end inside short))))
-      (less-or-not 29238 end)
+      (less-or-not longestLine end)
 
 -- ── its answer ─────────────────────────────────────────────────────────────────────────────────
 
 module _ (input before after output-before output-after : List ℕ) (end : ℕ) (f : FirstLine input end) where
   abbrev Told : Next → Type 0
-  Told r = NextFound input r × ((l : Lent) → IsLent before l → NextAnswered l input before after output-before output-after r)
+  Told r = NextFound input r × PromisesNext input before after output-before output-after r
 
-  told-of : (answer : LineAnswer) → ((l : Lent) → IsLent before l → LineAnswered (operationOfLine (take end input)) l before after output-before output-after answer) → Told (nextOf end answer)
+  told-of : (answer : LineAnswer) → PromisesLine (operationOfLine (take end input)) before after output-before output-after answer → Told (nextOf end answer)
   told-of (answered.Written size) promise = (f, promise)
   told-of answered.OutputTooShort promise = (
     tt,
@@ -91,6 +89,6 @@ module _ (input before after output-before output-after : List ℕ) (end : ℕ) 
   )
 
   pub told : (o : Option Operation) (answer : LineAnswer) {r : Next} → r ≡ nextOf end answer → operationOfLine (take end input) ≡ o
-      → ((l : Lent) → IsLent before l → LineAnswered o l before after output-before output-after answer) → Told r
+      → PromisesLine o before after output-before output-after answer → Told r
   told o answer is operation promise =
-      subst Told (sym is) (told-of answer (λ l lent. subst (λ p. LineAnswered p l before after output-before output-after answer) (sym operation) (promise l lent)))
+      subst Told (sym is) (told-of answer (subst (λ p. PromisesLine p before after output-before output-after answer) (sym operation) promise))

@@ -19,7 +19,7 @@ use Rattle.frames.specs.Answering.{IsLent}
 use Rattle.lines.specs.declared.LineAnswer.{LineAnswer}
 use Rattle.lines.specs.declared.LineAnswer.the-variants as answered
 use Rattle.lines.specs.declared.Progress.{Progress}
-use Rattle.lines.specs.Batching.{lineRoom, IsLine, withFeeds, LineAnswered, HadRoom, NextTooLong, Batches}
+use Rattle.lines.specs.Batching.{lineRoom, IsLine, withFeeds, LineAnswered, PromisesLine, HadRoom, NextTooLong, Batches, PromisesBatch}
 use Rattle.lines.proofs.AnswerLines.{found, some-lent}
 use Rattle.lines.proofs.StaysKnown.{unsound-before-answer, unsound-before-lines}
 
@@ -37,6 +37,11 @@ same-memory : (l : Lent) (before after others : List ℕ) → All IsByte after �
 same-memory (sound L) before after others bytes other-bytes one two kept also-kept = canonical after others L bytes other-bytes one two
 same-memory unsound before after others bytes other-bytes one two kept also-kept = kept refl ∙ sym (also-kept refl)
 
+pub same-after : (o : Option Operation) (l : Lent) (before after others : List ℕ) → All IsByte after → All IsByte others
+    → IsLent after (answerOr23 l o .lent) → IsLent others (answerOr23 l o .lent) → (l ≡ unsound → after ≡ before) → (l ≡ unsound → others ≡ before) → after ≡ others
+same-after o l before after others bytes other-bytes one two kept also-kept =
+    same-memory (answerOr23 l o .lent) before after others bytes other-bytes one two (λ e. kept (unsound-before-answer l o e)) (λ e. also-kept (unsound-before-answer l o e))
+
 -- ── a line ─────────────────────────────────────────────────────────────────────────────────────
 
 module _ (o : Option Operation) (l : Lent) (before after others output output-after output-others : List ℕ)
@@ -48,9 +53,7 @@ module _ (o : Option Operation) (l : Lent) (before after others output output-af
       let text = answerLine (answerOr23 l o .reply) in
       record {
         answer = ap answered.Written sizes;
-        memory =
-            same-memory (answerOr23 l o .lent) before after others bytes other-bytes (one .lent) (two .lent)
-            (λ e. one .untouched (unsound-before-answer l o e)) (λ e. two .untouched (unsound-before-answer l o e));
+        memory = same-after o l before after others bytes other-bytes (one .lent) (two .lent) (one .untouched) (two .untouched);
         output = one .output ∙ ap (λ n. text ++ (lineFeed ∷ drop n output)) sizes ∙ sym (two .output);
       }
   same-line (answered.Written size) answered.OutputTooShort (enough, _) (short, _, _) = absurd (omega arith)
@@ -171,8 +174,8 @@ module _ (l : Lent) (input before after others output output-after output-others
 module _ (before after others output output-after output-others : List ℕ) (bytes : All IsByte after) (other-bytes : All IsByte others)
     (known : Bool) (decides : Decides (SoundRoom before) known) where
   pub one-answer : (o : Option Operation) (r s : LineAnswer)
-      → ((l : Lent) → IsLent before l → LineAnswered o l before after output output-after r)
-      → ((l : Lent) → IsLent before l → LineAnswered o l before others output output-others s)
+      → PromisesLine o before after output output-after r
+      → PromisesLine o before others output output-others s
       → Same LineAnswer r s after others output-after output-others
   one-answer o r s one two =
       let some = some-lent known (found known decides) in
@@ -180,8 +183,8 @@ module _ (before after others output output-after output-others : List ℕ) (byt
       (one (some .lent) (some .is-lent)) (two (some .lent) (some .is-lent))
 
   pub one-batch : (input : List ℕ) (b c : Progress)
-      → ((l : Lent) → IsLent before l → Batches l input before after output output-after b)
-      → ((l : Lent) → IsLent before l → Batches l input before others output output-others c)
+      → PromisesBatch input before after output output-after b
+      → PromisesBatch input before others output output-others c
       → Same Progress b c after others output-after output-others
   one-batch input b c one two =
       let some = some-lent known (found known decides) in

@@ -12,7 +12,7 @@ use Rattle.rules.specs.SnapshotsMigrationCertificates.{snapshot, restore, recov
 use Rattle.rules.specs.Frames.{Operation, onAccount, takeSnapshot, certifyLedger, proveConservation, restoreFrom, recoverFrom, judge, migrateTo, certify, longestSnapshot, answer, answerOr23, answerToLine, operationOfLine, lentAfter}
 use Rattle.room.specs.Room.{SoundRoom}
 use Rattle.frames.specs.Answering.{IsLent, Known}
-use Rattle.lines.specs.Batching.{LineAnswered}
+use Rattle.lines.specs.Batching.{PromisesLine}
 use Rattle.lines.specs.declared.LineAnswer.the-variants as answered
 
 -- an answer leaves what is lent as it was, or is the outcome of a ledger's operation
@@ -53,11 +53,7 @@ unfolding lentAfter answerToLine
 unsound-before-lines l [] e = e
 unsound-before-lines l (line ∷ lines) e = unsound-before-answer l (operationOfLine line) (unsound-before-lines (answerToLine l line .lent) lines e)
 
--- what a line's answering promises for whatever is lent
-abbrev pub Promise : Option Operation → (before after output-before output-after : List ℕ) → ℕ → Type 0
-Promise o before after output-before output-after size = (l : Lent) → IsLent before l → LineAnswered o l before after output-before output-after (answered.Written size)
-
 pub stays-known : (known : Bool) (o : Option Operation) (before after output-before output-after : List ℕ) (size : ℕ) → Known known before
-    → Promise o before after output-before output-after size → Known known after
+    → PromisesLine o before after output-before output-after (answered.Written size) → Known known after
 stays-known true o before after output-before output-after size is promise = stays-sound after (is .ledger) o (promise (sound (is .ledger)) (is .is-room) .1 .lent)
 stays-known false o before after output-before output-after size is promise = subst (λ m. Known false m) (sym (promise unsound is .1 .untouched refl)) is

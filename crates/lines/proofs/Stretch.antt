@@ -15,10 +15,11 @@ use Rattle.rules.proofs.EveryLine.{answers-append}
 use Rattle.records.specs.Rows.{row, put}
 use Rattle.records.proofs.Rows.{two-halves}
 use Rattle.frames.specs.Answering.{IsLent}
-use Rattle.lines.specs.Batching.{lineRoom, IsLine, FirstLine, withFeeds, AnswersLine, HadRoom, NextTooLong, NextAnswered, Batches}
-use Rattle.lines.proofs.LineFound.{all-end, feed-behind}
-use Rattle.lines.proofs.StaysKnown.{unsound-after, Promise}
+use Rattle.lines.specs.Batching.{lineRoom, IsLine, FirstLine, withFeeds, AnswersLine, HadRoom, NextTooLong, PromisesLine, PromisesNext, Batches}
+use Rattle.lines.specs.declared.LineAnswer.the-variants as answered
 use Rattle.lines.specs.declared.Next.the-variants as next
+use Rattle.lines.proofs.LineFound.{all-end, feed-behind}
+use Rattle.lines.proofs.StaysKnown.{unsound-after}
 
 -- ── a line answered behind others ──────────────────────────────────────────────────────────────
 
@@ -85,7 +86,7 @@ part-left {l} {output₀ = output₀} {output = output} {written = written} u =
 
 pub turn : {l : Lent} {input before room output₀ output : List ℕ} {used written : ℕ} (room-after part-after : List ℕ) (end size : ℕ)
     → Underway l input before room output₀ output used written → FirstLine (drop used input) end
-    → Promise (operationOfLine (take end (drop used input))) room room-after (partFrom written output) part-after size
+    → PromisesLine (operationOfLine (take end (drop used input))) room room-after (partFrom written output) part-after (answered.Written size)
     → Underway l input before room-after output₀ (put written (length output - written) output part-after) (used + (end + 1)) (written + size)
 unfolding answerToLine
 turn {l} {input} {before} {room} {output₀} {output} {used} {written} room-after part-after end size u f promise =
@@ -142,7 +143,7 @@ at-the-end {input = input} u h = stop u (inl (subst IsLine (sym (drop-of-length-
 
 pub stopped : {l : Lent} {input before room output₀ output : List ℕ} {used written : ℕ} (room-after part-after : List ℕ)
     → Underway l input before room output₀ output used written → length output ≡ length output₀
-    → ((l : Lent) → IsLent room l → NextAnswered l (drop used input) room room-after (partFrom written output) part-after next.Stopped)
+    → PromisesNext (drop used input) room room-after (partFrom written output) part-after next.Stopped
     → Batches l input before room-after output₀ (put written (length output - written) output part-after) (record { used = used; written = written })
 stopped {l} {input} {before} {room} {output₀} {output} {used} {written} room-after part-after u same promise =
     let (room-same, part-same, why) = promise (lentAfter l (u .lines)) (u .lent) in

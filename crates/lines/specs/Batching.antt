@@ -1,14 +1,15 @@
 -- A line to its answer line, and a stretch of lines to their answers.
 use mathlib.Core.Path.{_≡_}
 use mathlib.Core.Logic.{_⊎_, _≢_}
+use mathlib.Core.Bool.{Bool}
 use mathlib.Core.List.{List, [], _∷_, _++_}
 use mathlib.Core.Option.{Option}
 use Prim.Native.Nat.{ℕ, _+_, _-_, _≤_, _<_}
 use lib.ListN.{length, getD, take, drop}
 use Rattle.rules.specs.Lists.{All}
 use Rattle.rules.specs.AnswerNumbers.{Lent, unsound}
-use Rattle.rules.specs.Frames.{Operation, lentAfter, lineFeed, answerLine, answerOr23, operationOfLine, answerToLine, answersToLines}
-use Rattle.frames.specs.Answering.{IsLent, roomFor}
+use Rattle.rules.specs.Frames.{Operation, lentAfter, lineFeed, answerLine, answerOr23, operationOfLine, answerToLine, answersToLines, longestFrame}
+use Rattle.frames.specs.Answering.{IsLent, roomFor, OfLent, Known}
 use Rattle.lines.specs.declared.LineAnswer.{LineAnswer}
 use Rattle.lines.specs.declared.LineAnswer.the-variants as answer
 use Rattle.lines.specs.declared.LineEnd.{LineEnd}
@@ -32,6 +33,13 @@ pub record AnswersLine (o : Option Operation) (l : Lent) (before after output-be
 abbrev pub LineAnswered : Option Operation → Lent → (before after output-before output-after : List ℕ) → LineAnswer → Type 0
 LineAnswered o l before after output-before output-after (answer.Written size) = (lineRoom o ≤ length output-before) × AnswersLine o l before after output-before output-after size
 LineAnswered o l before after output-before output-after answer.OutputTooShort = (length output-before < lineRoom o) × (after ≡ before) × (output-after ≡ output-before)
+
+abbrev pub PromisesLine : Option Operation → (before after output-before output-after : List ℕ) → LineAnswer → Type 0
+PromisesLine o before after output-before output-after r = OfLent before (λ l. LineAnswered o l before after output-before output-after r)
+
+-- what the work on lines asks: to know whether the memory is the room of a sound ledger, and room for the longest frame
+abbrev pub Ready : Bool → (memory work : List ℕ) → Type 0
+Ready known memory work = Known known memory × (longestFrame ≤ length work)
 
 -- ── a stretch of lines ─────────────────────────────────────────────────────────────────────────
 
@@ -83,6 +91,9 @@ NextAnswered l input before after output-before output-after (next.Answered end 
 NextAnswered l input before after output-before output-after next.Stopped =
     (after ≡ before) × (output-after ≡ output-before) × (IsLine input ⊎ NextTooLong input (length output-before))
 
+abbrev pub PromisesNext : (input before after output-before output-after : List ℕ) → Next → Type 0
+PromisesNext input before after output-before output-after r = OfLent before (λ l. NextAnswered l input before after output-before output-after r)
+
 -- the lines answered are those at the front of the input; their answers stand at the front of the output
 pub record Batches (l : Lent) (input before after output-before output-after : List ℕ) (b : Progress) : Type 0 where
   pub lines : List (List ℕ)
@@ -95,3 +106,9 @@ pub record Batches (l : Lent) (input before after output-before output-after : L
   pub untouched : l ≡ unsound → after ≡ before
   pub had-room : HadRoom l (length output-before) lines
   pub stopped : IsLine (drop (b .used) input) ⊎ NextTooLong (drop (b .used) input) (length output-before - b .written)
+
+abbrev pub PromisesBatch : (input before after output-before output-after : List ℕ) → Progress → Type 0
+PromisesBatch input before after output-before output-after b = OfLent before (λ l. Batches l input before after output-before output-after b)
+
+abbrev pub ProgressWithin : (input output : List ℕ) → Progress → Type 0
+ProgressWithin input output b = (b .used ≤ length input) × (b .written ≤ length output)

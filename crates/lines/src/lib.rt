@@ -1,16 +1,30 @@
 // Lines of digits to answer lines: one line, or a batch that asks once whether the memory is the room of a sound ledger.
 use digits::Decoded;
+use frames::LONGEST_FRAME;
+use frames::LONGEST_LINE;
+use frames::LONGEST_OTHER_LINE;
 ghost use mathlib.Core.Path.{_≡_};
 ghost use mathlib.Core.Option.{none};
 ghost use mathlib.Core.List.{List, _∷_, _++_};
 ghost use Prim.Native.Nat.{ℕ, _+_, _≤_, _<_};
 ghost use lib.ListN.{length, take, drop};
-ghost use Rattle.rules.specs.Frames.{lineFeed, lineOfBytes, operationOf, operationOfLine};
-ghost use Rattle.frames.specs.Answering.{Known, OfLent};
-ghost use Rattle.lines.specs.Batching.{LineAnswered, FirstFeed, nextOf, NextFound, NextAnswered, Batches};
+ghost use Rattle.rules.specs.Frames.{longestLine, lineFeed, lineOfBytes, operationOf, operationOfLine};
+ghost use Rattle.frames.specs.Answering.{Known};
+ghost use Rattle.lines.specs.Batching.{PromisesLine, Ready, FirstFeed, nextOf, NextFound, PromisesNext, PromisesBatch, ProgressWithin};
 
-// The longest line is of 29,238 characters, and so of 14,619 bytes.
-const LONGEST_LINE: usize = 29238;
+pub const LINE_FEED: u8 = 10;
+
+// The bytes of a room: its head, a place for each name, a booking for each reservation.
+pub const HEAD_SIZE: usize = 56;
+
+pub const PLACE_SIZE: usize = 66;
+
+pub const BOOKING_SIZE: usize = 18;
+
+// The largest room, the desk's.
+pub const DESK_ROOM: usize = HEAD_SIZE
+    + PLACE_SIZE * rules::MOST_NAMES
+    + BOOKING_SIZE * rules::MOST_RESERVATIONS;
 
 // How many characters of an answer line were written, its line feed among them, or that its longest answer has no room.
 pub enum LineAnswer {
@@ -43,14 +57,15 @@ fn finish(output: &mut [u8], size: usize) -> usize
 {
     digits::spell(output, size);
     let end = size + size;
-    output[end] = 10;
+    output[end] = LINE_FEED;
     end + 1
 }
 
 // A frame's bytes. Only the room for its longest answer is lent on, so that the answer is no longer.
 fn answer_frame(room: &mut [u8], known: bool, bytes: &[u8], output: &mut [u8]) -> LineAnswer
     requires { ⌜ Known known (now room) ⌝ }
-    ensures { λ r. ⌜ OfLent (now (room .entry)) (λ l. LineAnswered (operationOf (now (bytes .entry))) l (now (room .entry)) (now (room .exit)) (now (output .entry)) (now (output .exit)) r) ⌝ }
+    ensures { λ r. ⌜ PromisesLine (operationOf (now (bytes .entry)))
+        (now (room .entry)) (now (room .exit)) (now (output .entry)) (now (output .exit)) r ⌝ }
 {
     let frame = frame_reader::read(bytes);
     let needed = frames::room_for(frame);
@@ -61,11 +76,11 @@ fn answer_frame(room: &mut [u8], known: bool, bytes: &[u8], output: &mut [u8]) -
     LineAnswer::Written(finish(output, size))
 }
 
-// "Empty, odd, .. or any character but 0-9 and a-f: 23"; "a longer one gets one 23"
+// A line that is no frame, or longer than any.
 fn answer_no_frame(output: &mut [u8]) -> LineAnswer
-    ensures { λ r. ⌜ ((room : List ℕ) → OfLent room (λ l. LineAnswered none l room room (now (output .entry)) (now (output .exit)) r)) ⌝ }
+    ensures { λ r. ⌜ ((room : List ℕ) → PromisesLine none room room (now (output .entry)) (now (output .exit)) r) ⌝ }
 {
-    if output.len() < 103 {
+    if output.len() < LONGEST_OTHER_LINE {
         return LineAnswer::OutputTooShort;
     }
     let size = answer_bytes::write_number(output, 23);
@@ -73,15 +88,16 @@ fn answer_no_frame(output: &mut [u8]) -> LineAnswer
 }
 
 // A line on memory of which it is known whether it is the room of a sound ledger. The frame's bytes stand in the work room.
-pub fn answer_line(
+fn answer_line(
     room: &mut [u8],
     known: bool,
     line: &[u8],
     work: &mut [u8],
     output: &mut [u8],
 ) -> LineAnswer
-    requires { ⌜ Known known (now room) × (14619 ≤ length (now work)) ⌝ }
-    ensures { λ r. ⌜ OfLent (now (room .entry)) (λ l. LineAnswered (operationOfLine (now (line .entry))) l (now (room .entry)) (now (room .exit)) (now (output .entry)) (now (output .exit)) r) ⌝ }
+    requires { ⌜ Ready known (now room) (now work) ⌝ }
+    ensures { λ r. ⌜ PromisesLine (operationOfLine (now (line .entry)))
+        (now (room .entry)) (now (room .exit)) (now (output .entry)) (now (output .exit)) r ⌝ }
 {
     if LONGEST_LINE < line.len() {
         return answer_no_frame(output);
@@ -94,10 +110,11 @@ pub fn answer_line(
 
 // One line, for any memory, any characters and any output.
 pub fn answer(room: &mut [u8], line: &[u8], output: &mut [u8]) -> LineAnswer
-    ensures { λ r. ⌜ OfLent (now (room .entry)) (λ l. LineAnswered (operationOfLine (now (line .entry))) l (now (room .entry)) (now (room .exit)) (now (output .entry)) (now (output .exit)) r) ⌝ }
+    ensures { λ r. ⌜ PromisesLine (operationOfLine (now (line .entry)))
+        (now (room .entry)) (now (room .exit)) (now (output .entry)) (now (output .exit)) r ⌝ }
 {
     let known = soundness::is_sound(room);
-    let mut work = [0u8; 14619];
+    let mut work = [0u8; LONGEST_FRAME];
     answer_line(room, known, line, &mut work, output)
 }
 
@@ -107,7 +124,7 @@ pub fn line_end(input: &[u8], from: usize) -> LineEnd
 {
     let mut at = from;
     while at < input.len() {
-        if input[at] == 10 {
+        if input[at] == LINE_FEED {
             return LineEnd::At(at);
         }
         at += 1;
@@ -117,7 +134,7 @@ pub fn line_end(input: &[u8], from: usize) -> LineEnd
 
 // No longer line is decoded.
 fn front_limit(size: usize) -> usize
-    ensures { λ r. ⌜ (r ≤ size) × (r ≤ 29238) × ((end : ℕ) → end ≤ size → end ≤ 29238 → end ≤ r) ⌝ }
+    ensures { λ r. ⌜ (r ≤ size) × (r ≤ longestLine) × ((end : ℕ) → end ≤ size → end ≤ longestLine → end ≤ r) ⌝ }
 {
     if LONGEST_LINE < size {
         return LONGEST_LINE;
@@ -142,9 +159,10 @@ fn answer_next(
     work: &mut [u8],
     output: &mut [u8],
 ) -> Next
-    requires { ⌜ Known known (now room) × (14619 ≤ length (now work)) ⌝ }
+    requires { ⌜ Ready known (now room) (now work) ⌝ }
     ensures found { λ r. ⌜ NextFound (now (input .entry)) r ⌝ }
-    ensures answered { λ r. ⌜ OfLent (now (room .entry)) (λ l. NextAnswered l (now (input .entry)) (now (room .entry)) (now (room .exit)) (now (output .entry)) (now (output .exit)) r) ⌝ }
+    ensures answered { λ r. ⌜ PromisesNext (now (input .entry))
+        (now (room .entry)) (now (room .exit)) (now (output .entry)) (now (output .exit)) r ⌝ }
 {
     let limit = front_limit(input.len());
     let size = digits::front_bytes(&input[..limit], work);
@@ -166,9 +184,10 @@ fn answer_lines(
     work: &mut [u8],
     output: &mut [u8],
 ) -> Progress
-    requires { ⌜ Known known (now room) × (14619 ≤ length (now work)) ⌝ }
-    ensures batches { λ r. ⌜ OfLent (now (room .entry)) (λ l. Batches l (now (input .entry)) (now (room .entry)) (now (room .exit)) (now (output .entry)) (now (output .exit)) r) ⌝ }
-    ensures within { λ r. ⌜ (r .used ≤ length (now (input .entry))) × (r .written ≤ length (now (output .entry))) ⌝ }
+    requires { ⌜ Ready known (now room) (now work) ⌝ }
+    ensures batches { λ r. ⌜ PromisesBatch (now (input .entry))
+        (now (room .entry)) (now (room .exit)) (now (output .entry)) (now (output .exit)) r ⌝ }
+    ensures within { λ r. ⌜ ProgressWithin (now (input .entry)) (now (output .entry)) r ⌝ }
 {
     let mut used = 0;
     let mut written = 0;
@@ -190,10 +209,11 @@ fn answer_lines(
 
 // A batch. Soundness is asked once, and one work room serves all lines.
 pub fn batch(room: &mut [u8], input: &[u8], output: &mut [u8]) -> Progress
-    ensures batches { λ r. ⌜ OfLent (now (room .entry)) (λ l. Batches l (now (input .entry)) (now (room .entry)) (now (room .exit)) (now (output .entry)) (now (output .exit)) r) ⌝ }
-    ensures within { λ r. ⌜ (r .used ≤ length (now (input .entry))) × (r .written ≤ length (now (output .entry))) ⌝ }
+    ensures batches { λ r. ⌜ PromisesBatch (now (input .entry))
+        (now (room .entry)) (now (room .exit)) (now (output .entry)) (now (output .exit)) r ⌝ }
+    ensures within { λ r. ⌜ ProgressWithin (now (input .entry)) (now (output .entry)) r ⌝ }
 {
     let known = soundness::is_sound(room);
-    let mut work = [0u8; 14619];
+    let mut work = [0u8; LONGEST_FRAME];
     answer_lines(room, known, input, &mut work, output)
 }

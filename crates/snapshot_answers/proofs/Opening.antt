@@ -6,13 +6,14 @@ use Rattle.rules.specs.AnswerNumbers.{Value, Version, Count, reply}
 use Rattle.rules.specs.SnapshotsMigrationCertificates.{bytesOf}
 use Rattle.rules.specs.Frames.{replyBytes}
 use Rattle.numbers.specs.LittleEndian.{littleBytes}
+use Rattle.answer_bytes.specs.Sizes.{threeWords}
 use Rattle.answer_bytes.specs.Writing.{WritesReply, IsWritten}
 use Rattle.answer_bytes.proofs.Parts.{byte-is}
 
--- the number, the version and two counts take 25 bytes
+-- the number, the version and two counts
 pub opening : (version rows active : ℕ) {before after : List ℕ} {written : ℕ}
     → ((v w x : Value) → IsWritten version v → IsWritten rows w → IsWritten active x → WritesReply (reply 0 (v ∷ w ∷ x ∷ [])) before after written)
-    → WritesReply (reply 0 (Version version ∷ Count rows ∷ Count active ∷ [])) before after 25
+    → WritesReply (reply 0 (Version version ∷ Count rows ∷ Count active ∷ [])) before after threeWords
 unfolding replyBytes flatMap bytesOf
 opening version rows active writes = record { size = refl; output = writes (Version version) (Count rows) (Count active) refl refl refl .output }
 

@@ -1,4 +1,6 @@
 // The answers of snapshots, restores, migration, certificates and the conservation proof as document 01 writes them.
+use answer_bytes::LONGEST_OTHER_ANSWER;
+use answer_bytes::THREE_WORDS;
 use certificates::Certificate;
 use certificates::Certified;
 use certificates::Proof;
@@ -8,14 +10,31 @@ use validation::Verdict;
 ghost use Prim.Native.Nat.{_≤_};
 ghost use mathlib.Core.Path.{_≡_};
 ghost use lib.ListN.{length};
+ghost use Rattle.rules.specs.RoomAndSoundLedger.{longestName};
 ghost use Rattle.rules.specs.Frames.{flag};
 ghost use Rattle.validation.specs.Judgement.{judgedReply};
 ghost use Rattle.certificates.specs.Certified.{certificateReply, certifiedReply, proofReply, provedReply};
+ghost use Rattle.answer_bytes.specs.Sizes.{longestOtherAnswer};
 ghost use Rattle.answer_bytes.specs.Writing.{WritesReply};
+
+// Where the parts of a certificate end, and of a proof: behind three words, which both begin with.
+const BALANCED_END: usize = THREE_WORDS + 1;
+
+const INITIAL_END: usize = BALANCED_END + 8;
+
+const COMMITTED_END: usize = INITIAL_END + 8;
+
+const REPRESENTABLE_END: usize = COMMITTED_END + 1;
+
+const PROVED_INITIAL_END: usize = THREE_WORDS + 8;
+
+const PROVED_COMMITTED_END: usize = PROVED_INITIAL_END + 8;
+
+const PROOF_SIZE: usize = PROVED_COMMITTED_END + 1;
 
 // Done carries nothing: a migration that is done, which carries a snapshot, is not written here.
 pub fn write_judged(output: &mut [u8], judged: Judged) -> usize
-    requires { ⌜ (51 ≤ length (now output)) × (judged .name .length ≤ 24) ⌝ }
+    requires { ⌜ (longestOtherAnswer ≤ length (now output)) × (judged .name .length ≤ longestName) ⌝ }
     ensures { λ r. ⌜ WritesReply (judgedReply judged) (now (output .entry)) (now (output .exit)) r ⌝ }
 {
     let name = judged.name;
@@ -54,9 +73,9 @@ fn flag(yes: bool) -> u8
     0
 }
 
-// "version, rows, active, balanced, initial total, committed total, representable, since"
+// What it carries, in order, says document 01, "Snapshots, migration, certificates".
 fn write_certificate(output: &mut [u8], certificate: Certificate) -> usize
-    requires { ⌜ 51 ≤ length (now output) ⌝ }
+    requires { ⌜ longestOtherAnswer ≤ length (now output) ⌝ }
     ensures { λ r. ⌜ WritesReply (certificateReply certificate) (now (output .entry)) (now (output .exit)) r ⌝ }
 {
     let initial_total = certificate.initial_total;
@@ -69,16 +88,22 @@ fn write_certificate(output: &mut [u8], certificate: Certificate) -> usize
         certificate.rows,
         certificate.active,
     );
-    numbers::write1(&mut output[25..26], flag(certificate.balanced));
-    big_endian::write_amount(&mut output[26..34], initial_total);
-    big_endian::write_amount(&mut output[34..42], committed_total);
-    numbers::write1(&mut output[42..43], flag(certificate.representable));
-    big_endian::write_amount(&mut output[43..51], since);
-    51
+    numbers::write1(
+        &mut output[THREE_WORDS..BALANCED_END],
+        flag(certificate.balanced),
+    );
+    big_endian::write_amount(&mut output[BALANCED_END..INITIAL_END], initial_total);
+    big_endian::write_amount(&mut output[INITIAL_END..COMMITTED_END], committed_total);
+    numbers::write1(
+        &mut output[COMMITTED_END..REPRESENTABLE_END],
+        flag(certificate.representable),
+    );
+    big_endian::write_amount(&mut output[REPRESENTABLE_END..LONGEST_OTHER_ANSWER], since);
+    LONGEST_OTHER_ANSWER
 }
 
 pub fn write_certified(output: &mut [u8], certified: Certified) -> usize
-    requires { ⌜ 51 ≤ length (now output) ⌝ }
+    requires { ⌜ longestOtherAnswer ≤ length (now output) ⌝ }
     ensures { λ r. ⌜ WritesReply (certifiedReply certified) (now (output .entry)) (now (output .exit)) r ⌝ }
 {
     match certified {
@@ -90,22 +115,25 @@ pub fn write_certified(output: &mut [u8], certified: Certified) -> usize
     }
 }
 
-// "version, accounts, active, both totals, 1"
+// Version, counts and totals of the ledger; the last byte says yes.
 fn write_proof(output: &mut [u8], proof: Proof) -> usize
-    requires { ⌜ 51 ≤ length (now output) ⌝ }
+    requires { ⌜ longestOtherAnswer ≤ length (now output) ⌝ }
     ensures { λ r. ⌜ WritesReply (proofReply proof) (now (output .entry)) (now (output .exit)) r ⌝ }
 {
     let initial_total = proof.initial_total;
     let committed_total = proof.committed_total;
     answer_bytes::write_three_words(output, 0, proof.version, proof.accounts, proof.active);
-    big_endian::write_amount(&mut output[25..33], initial_total);
-    big_endian::write_amount(&mut output[33..41], committed_total);
-    numbers::write1(&mut output[41..42], 1);
-    42
+    big_endian::write_amount(&mut output[THREE_WORDS..PROVED_INITIAL_END], initial_total);
+    big_endian::write_amount(
+        &mut output[PROVED_INITIAL_END..PROVED_COMMITTED_END],
+        committed_total,
+    );
+    numbers::write1(&mut output[PROVED_COMMITTED_END..PROOF_SIZE], 1);
+    PROOF_SIZE
 }
 
 pub fn write_proved(output: &mut [u8], proved: Proved) -> usize
-    requires { ⌜ 51 ≤ length (now output) ⌝ }
+    requires { ⌜ longestOtherAnswer ≤ length (now output) ⌝ }
     ensures { λ r. ⌜ WritesReply (provedReply proved) (now (output .entry)) (now (output .exit)) r ⌝ }
 {
     match proved {

@@ -8,8 +8,8 @@ use Prim.Native.Nat.{ℕ}
 use lib.ListN.{length}
 use Rattle.rules.specs.Lists.{All}
 use Rattle.rules.specs.RoomAndSoundLedger.{Ledger, IsByte, made}
-use Rattle.rules.specs.AnswerNumbers.{Lent, sound, unsound, onLent}
-use Rattle.rules.specs.Frames.{Operation, onAccount, takeSnapshot, certifyLedger, proveConservation, restoreFrom, recoverFrom, judge, migrateTo, certify, answer, answerOr23}
+use Rattle.rules.specs.AnswerNumbers.{Lent, sound, unsound}
+use Rattle.rules.specs.Frames.{Operation}
 use Rattle.rules.proofs.Tests.{by-option, equal-or-not}
 use Rattle.rules.proofs.Names.{same-false, same-or-not}
 use Rattle.room.specs.Contents.{roomSize}
@@ -17,8 +17,9 @@ use Rattle.room.proofs.Decoding.{canonical}
 use Rattle.soundness.specs.Making.{Untouched}
 use Rattle.soundness.proofs.Deciding.{less-or-not}
 use Rattle.soundness.proofs.SameBytes.{made-is-room}
-use Rattle.frames.specs.Answering.{IsLent, AnswersOperation, roomFor}
-use Rattle.zatovola.specs.Interface.{bytesOfRoom, madeNumber, MakesNumber, FrameAnswered}
+use Rattle.frames.specs.Answering.{IsLent, roomFor}
+use Rattle.lines.proofs.SameAnswers.{same-after}
+use Rattle.zatovola.specs.Interface.{bytesOfRoom, madeNumber, MakesNumber, PromisesFrame}
 
 -- of `zatovola_room_size`
 pub same-size : (names reservations m n : ℕ) → m ≡ bytesOfRoom (made names reservations) → n ≡ bytesOfRoom (made names reservations) → m ≡ n
@@ -59,39 +60,9 @@ by-lent memory told holds = ⊎-elim (λ p. p) (λ n. absurd (n (holds unsound (
 same-bytes-or-not : (xs ys : List ℕ) → (xs ≡ ys) ⊎ (xs ≢ ys)
 same-bytes-or-not xs ys = ⊎-elim inl (λ e. inr (same-false xs ys e)) (same-or-not xs ys)
 
--- a ledger that is lent sound is a ledger after the answer
-by-ledger : (P : Lent → Type 0) (L : Ledger) (o : Option Operation) → ((K : Ledger) → P (sound K)) → P (answerOr23 (sound L) o .lent)
-unfolding answer onLent
-by-ledger P L none holds = holds L
-by-ledger P L (some (onAccount x)) holds = holds _
-by-ledger P L (some takeSnapshot) holds = holds _
-by-ledger P L (some certifyLedger) holds = holds _
-by-ledger P L (some proveConservation) holds = holds _
-by-ledger P L (some (restoreFrom s)) holds = holds _
-by-ledger P L (some (recoverFrom s)) holds = holds _
-by-ledger P L (some (judge s)) holds = holds L
-by-ledger P L (some (migrateTo fence s)) holds = holds L
-by-ledger P L (some (certify since s)) holds = holds L
-
--- what `zatovola_answer` promises, for whatever is lent
-abbrev pub Promise : Option Operation → (before after output-before output-after : List ℕ) → ℕ → Type 0
-Promise o before after output-before output-after written = (l : Lent) → IsLent before l → FrameAnswered o l before after output-before output-after written
-
 module _ (o : Option Operation) (before after others output output-after output-others : List ℕ) (m n : ℕ)
     (bytes : All IsByte after) (other-bytes : All IsByte others) where
-  same-memory : (l : Lent) → AnswersOperation o l before after output output-after m → AnswersOperation o l before others output output-others n
-      → after ≡ others
-  same-memory (sound L) one two =
-      by-ledger
-      (λ l. IsLent after l → IsLent others l → after ≡ others)
-      L
-      o
-      (λ K room other-room. canonical after others K bytes other-bytes room other-room)
-      (one .lent)
-      (two .lent)
-  same-memory unsound one two = one .untouched refl ∙ sym (two .untouched refl)
-
-  module _ (one : Promise o before after output output-after m) (two : Promise o before others output output-others n) where
+  module _ (one : PromisesFrame o before after output output-after m) (two : PromisesFrame o before others output output-others n) where
     agree : (l : Lent) → IsLent before l → (m ≡ n) × (after ≡ others) × (output-after ≡ output-others)
     agree l is-lent =
         let a = one l is-lent in
@@ -101,7 +72,7 @@ module _ (o : Option Operation) (before after others output output-after output-
         (λ room.
         let x = a .answered room in
         let y = b .answered room in
-        (x .writes .size ∙ sym (y .writes .size), same-memory l x y, x .writes .output ∙ sym (y .writes .output)))
+        (x .writes .size ∙ sym (y .writes .size), same-after o l before after others bytes other-bytes (x .lent) (y .lent) (x .untouched) (y .untouched), x .writes .output ∙ sym (y .writes .output)))
         (less-or-not (length output) (roomFor o))
 
     -- of `zatovola_answer`

@@ -11,7 +11,7 @@ use Rattle.room.specs.Contents.{roomSize}
 use Rattle.soundness.specs.Making.{Makes}
 use Rattle.soundness.specs.declared.Made.{Made}
 use Rattle.soundness.specs.declared.Made.the-variants.{Done, UnsoundLedger}
-use Rattle.frames.specs.Answering.{AnswersOperation, roomFor}
+use Rattle.frames.specs.Answering.{OfLent, AnswersOperation, roomFor}
 use Rattle.lines.specs.declared.Progress.{Progress}
 
 -- the bytes that the room of a ledger takes; none, where T or R is out of range
@@ -19,7 +19,7 @@ abbrev pub bytesOfRoom : Option Ledger → ℕ
 bytesOfRoom none = 0
 bytesOfRoom (some L) = roomSize (L .T) (L .R)
 
--- "A fresh ledger ..; making one overwrites the room, or gives 24"
+-- a fresh ledger made is 0; no ledger, for a T or an R out of range or a room of another size, is 24
 abbrev pub madeNumber : Made → ℕ
 madeNumber Done = 0
 madeNumber UnsoundLedger = 24
@@ -33,6 +33,9 @@ pub record MakesNumber (names reservations : ℕ) (before : List ℕ) (r : ℕ) 
 pub record FrameAnswered (o : Option Operation) (l : Lent) (before after output-before output-after : List ℕ) (written : ℕ) : Type 0 where
   pub answered : roomFor o ≤ length output-before → AnswersOperation o l before after output-before output-after written
   pub too-short : length output-before < roomFor o → (written ≡ 0) × (after ≡ before) × (output-after ≡ output-before)
+
+abbrev pub PromisesFrame : Option Operation → (before after output-before output-after : List ℕ) → (written : ℕ) → Type 0
+PromisesFrame o before after output-before output-after written = OfLent before (λ l. FrameAnswered o l before after output-before output-after written)
 
 abbrev pub progress : (used written : ℕ) → Progress
 progress used written = record { used = used; written = written }

@@ -2,26 +2,34 @@
 // functions asks anything of its caller.
 use soundness::Made;
 ghost use mathlib.Core.Path.{_≡_};
-ghost use Prim.Native.Nat.{_≤_};
-ghost use lib.ListN.{length};
 ghost use Rattle.rules.specs.RoomAndSoundLedger.{made};
 ghost use Rattle.rules.specs.Frames.{operationOf};
-ghost use Rattle.frames.specs.Answering.{OfLent};
-ghost use Rattle.lines.specs.Batching.{Batches};
-ghost use Rattle.zatovola.specs.Interface.{bytesOfRoom, MakesNumber, FrameAnswered, progress};
+ghost use Rattle.lines.specs.Batching.{PromisesBatch, ProgressWithin};
+ghost use Rattle.zatovola.specs.Interface.{bytesOfRoom, MakesNumber, PromisesFrame, progress};
+
+// Sizes, in the width that they have in C.
+const MOST_NAMES: u64 = rules::MOST_NAMES as u64;
+
+const MOST_RESERVATIONS: u64 = rules::MOST_RESERVATIONS as u64;
+
+const HEAD_SIZE: u64 = lines::HEAD_SIZE as u64;
+
+const PLACE_SIZE: u64 = lines::PLACE_SIZE as u64;
+
+const BOOKING_SIZE: u64 = lines::BOOKING_SIZE as u64;
 
 // How many bytes the room for T names and R reservations takes, or 0 where T or R is out of range.
 #[no_mangle]
 pub extern "C" fn zatovola_room_size(names: u64, reservations: u64) -> u64
     ensures { λ r. ⌜ r ≡ bytesOfRoom (made names reservations) ⌝ }
 {
-    if names == 0 || 256 < names {
+    if names == 0 || MOST_NAMES < names {
         return 0;
     }
-    if reservations == 0 || 1024 < reservations {
+    if reservations == 0 || MOST_RESERVATIONS < reservations {
         return 0;
     }
-    56 + 66 * names + 18 * reservations
+    HEAD_SIZE + PLACE_SIZE * names + BOOKING_SIZE * reservations
 }
 
 // A fresh ledger in the whole of the lent room: 0, or 24 and nothing changed where T or R is out of range or the room is of another size.
@@ -39,7 +47,8 @@ pub extern "C" fn zatovola_make(room: &mut [u8], names: u64, reservations: u64) 
 // A frame's bytes to its answer's bytes, and how many these are: 0, and nothing changed, where the output has no room for the longest answer to this frame.
 #[no_mangle]
 pub extern "C" fn zatovola_answer(room: &mut [u8], frame: &[u8], output: &mut [u8]) -> usize
-    ensures { λ r. ⌜ OfLent (now (room .entry)) (λ l. FrameAnswered (operationOf (now (frame .entry))) l (now (room .entry)) (now (room .exit)) (now (output .entry)) (now (output .exit)) r) ⌝ }
+    ensures { λ r. ⌜ PromisesFrame (operationOf (now (frame .entry)))
+        (now (room .entry)) (now (room .exit)) (now (output .entry)) (now (output .exit)) r ⌝ }
 {
     let operation = frame_reader::read(frame);
     if output.len() < frames::room_for(operation) {
@@ -57,8 +66,9 @@ pub extern "C" fn zatovola_batch(
     output: &mut [u8],
     used: &mut usize,
 ) -> usize
-    ensures batches { λ r. ⌜ OfLent (now (room .entry)) (λ l. Batches l (now (input .entry)) (now (room .entry)) (now (room .exit)) (now (output .entry)) (now (output .exit)) (progress (now (used .exit)) r)) ⌝ }
-    ensures within { λ r. ⌜ (now (used .exit) ≤ length (now (input .entry))) × (r ≤ length (now (output .entry))) ⌝ }
+    ensures batches { λ r. ⌜ PromisesBatch (now (input .entry))
+        (now (room .entry)) (now (room .exit)) (now (output .entry)) (now (output .exit)) (progress (now (used .exit)) r) ⌝ }
+    ensures within { λ r. ⌜ ProgressWithin (now (input .entry)) (now (output .entry)) (progress (now (used .exit)) r) ⌝ }
 {
     let answered = lines::batch(room, input, output);
     *used = answered.used;

@@ -1,13 +1,14 @@
 -- `answer_bytes::write_named` meets its contract: the name stands behind the number.
 use mathlib.Core.Path.{_≡_}
 use lib.ListN.{length}
+use Rattle.rules.specs.RoomAndSoundLedger.{longestName}
 use Rattle.answer_bytes.proofs.Parts.{number-written, name-written}
 use borrow.Author.Needs.{needs}
 use Rattle.answer_bytes.proofs.write_named.Statement.{statement}
 use Rattle.answer_bytes.proofs.write_named.Tie as tie
 
--- an array has its 24 bytes; from where the function returns, search does not look back as far
-held : (c : tie.Start) → length (c .args .name .bytes) ≡ 24
+-- an array has all its bytes; from where the function returns, search does not look back as far
+held : (c : tie.Start) → length (c .args .name .bytes) ≡ longestName
 held c = search needs
 
 returns : tie.Need-returns

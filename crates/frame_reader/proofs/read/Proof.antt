@@ -20,7 +20,7 @@ read-snapshot-requires c κs =
     (λ range. let seven : code ≢ 7 = λ e. range .0 .rest .0 .0 .1 (inl e) in
     ⊎-elim (λ e. inl e) (λ other. inr (inl (omega (arith, range)))) (equal-or-not code 8))
     (c .match .came) in
-    (omega arith, refl, one)
+    ((omega arith, refl), one)
 
 returns-6 : tie.Need-returns-6
 returns-6 c = (sym (unknown (c .before .before .before .before .before .args .bytes .now) (omega arith) (λ low. absurd (omega arith))), tt)

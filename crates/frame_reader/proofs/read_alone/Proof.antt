@@ -19,19 +19,19 @@ misfit bs h e (inr (inl k)) = alone h certifyLedger (e ∙ k) refl .misfit
 misfit bs h e (inr (inr k)) = alone h proveConservation (e ∙ k) refl .misfit
 
 returns : tie.Need-returns
-returns c = let (h, e, one) = c .before .pre in (sym (misfit _ h e one (c .if1 .taken)), tt)
+returns c = let ((h, e), one) = c .before .pre in (sym (misfit _ h e one (c .if1 .taken)), tt)
 
 returns-2 : tie.Need-returns-2
 unfolding first codes
-returns-2 c = let (h, e, one) = c .before .before .pre in (sym (alone h takeSnapshot (e ∙ c .match .keys1) refl .fit (c .before .if1 .left)), tt)
+returns-2 c = let ((h, e), one) = c .before .before .pre in (sym (alone h takeSnapshot (e ∙ c .match .keys1) refl .fit (c .before .if1 .left)), tt)
 
 returns-3 : tie.Need-returns-3
 unfolding first codes
-returns-3 c = let (h, e, one) = c .before .before .pre in (sym (alone h certifyLedger (e ∙ c .match .keys2) refl .fit (c .before .if1 .left)), tt)
+returns-3 c = let ((h, e), one) = c .before .before .pre in (sym (alone h certifyLedger (e ∙ c .match .keys2) refl .fit (c .before .if1 .left)), tt)
 
 returns-4 : tie.Need-returns-4
 unfolding first codes
-returns-4 c = let (h, e, one) = c .before .before .pre in (sym (alone h proveConservation (e ∙ otherwise (otherwise one (c .match .rest .0 .1)) (c .match .rest .1)) refl .fit (c .before .if1 .left)), tt)
+returns-4 c = let ((h, e), one) = c .before .before .pre in (sym (alone h proveConservation (e ∙ otherwise (otherwise one (c .match .rest .0 .1)) (c .match .rest .1)) refl .fit (c .before .if1 .left)), tt)
 
 pub read-alone-spec : {M : Type 1} → statement M
 read-alone-spec = tie.close (tie.spec returns returns-2 returns-3 returns-4)

@@ -13,13 +13,13 @@ use Rattle.rules.specs.AccountRules.{AccountOperation, ensure, topUp, limit, re
 use Rattle.rules.specs.SnapshotsMigrationCertificates.{numberOf, signed}
 use Rattle.rules.specs.Frames.{onAccount, nameAndAmount, codes, operationOf}
 use Rattle.snapshot_reader.proofs.RowBytes.{amountAt}
-use Rattle.frame_reader.specs.Operations.{nameIn}
+use Rattle.frame_reader.specs.Operations.{nameStart, nameIn}
 use Rattle.frame_reader.proofs.Codes.{bodyWith}
 use Rattle.frame_reader.proofs.Sized.{naming}
 use Rattle.frame_reader.proofs.read_named.Statement.{statement}
 use Rattle.frame_reader.proofs.read_named.Tie as tie
 
-misfit : (bs : List ℕ) (code : ℕ) → 1 ≤ length bs → getD bs 0 0 ≡ code → 1 ≤ code → code ≤ 4 → (length bs ≡ 2 + getD bs 1 0 + 8 → ⊥) → operationOf bs ≡ none
+misfit : (bs : List ℕ) (code : ℕ) → 1 ≤ length bs → getD bs 0 0 ≡ code → 1 ≤ code → code ≤ 4 → (length bs ≡ nameStart + getD bs 1 0 + 8 → ⊥) → operationOf bs ≡ none
 unfolding first codes
 misfit bs zero h e low high = absurd (omega arith)
 misfit bs (suc zero) h e low high = naming h _ refl ensure e refl .misfit
@@ -29,7 +29,7 @@ misfit bs (suc (suc (suc (suc zero)))) h e low high = naming h _ refl reserve e 
 misfit bs (suc (suc (suc (suc (suc code))))) h e low high = absurd (omega arith)
 
 returns : tie.Need-returns
-returns c = let s = c .before .before in let (h, e, low, high) = s .pre in (sym (misfit _ (s .args .code) h e low high (omega arith)), tt)
+returns c = let s = c .before .before in let ((h, e), low, high) = s .pre in (sym (misfit _ (s .args .code) h e low high (omega arith)), tt)
 
 -- a byte is below 256
 byte : (c : tie.After-shared-slice-known2) → getD (c .before .before .before .args .bytes .now) 1 0 < 256
@@ -38,7 +38,7 @@ byte c = omega (arith, c .shared-slice-known2 .given 1)
 returns-2 : tie.Need-returns-2
 returns-2 c =
     let s = c .before .before .before .before in
-    let (h, e, low, high) = s .pre in
+    let ((h, e), low, high) = s .pre in
     (sym (misfit _ (s .args .code) h e low high (omega arith)), tt)
 
 module _ (c : tie.After-read-amount) where
@@ -49,12 +49,12 @@ module _ (c : tie.After-read-amount) where
   code = c .before .before .before .before .before .before .args .code
 
   abbrev end : ℕ
-  end = 2 + getD bytes 1 0
+  end = nameStart + getD bytes 1 0
 
   fit : (number : ℕ) → code ≡ number → (operation : Name → ℤ → AccountOperation ℕ) → bodyWith number ≡ nameAndAmount operation
-      → (some (onAccount (operation (nameIn bytes end) (c .read-amount .result .0))) ≡ operationOf bytes) × ((2 ≤ end) × (end ≤ length bytes))
+      → (some (onAccount (operation (nameIn bytes end) (c .read-amount .result .0))) ≡ operationOf bytes) × ((nameStart ≤ end) × (end ≤ length bytes))
   fit number k operation is =
-      let (h, e, low, high) = c .before .before .before .before .before .before .pre in
+      let ((h, e), low, high) = c .before .before .before .before .before .before .pre in
       let eight : length bytes - end ≡ 8 = omega arith in
       let amount : c .read-amount .result .0 ≡ amountAt end bytes = c .read-amount .ensures ∙ ap (λ size. signed (numberOf (take size (drop end bytes)))) eight in
       (sym (naming h end refl operation (e ∙ k) is .fit (omega arith) ∙ ap (λ z. some (onAccount (operation (nameIn bytes end) z))) (sym amount)), (omega arith, omega arith))

@@ -28,7 +28,7 @@ misfit bs h e (inr (inr k)) f = refused (after-code h judge (e ∙ k) refl) (λ 
 returns : tie.Need-returns
 returns c =
     let s = c .before .before .before .before in
-    let (h, e, one) = s .pre in
+    let ((h, e), one) = s .pre in
     let test = c .before .is-snapshot in
     (sym (misfit _ h e one (tested (s .args .bytes .now) 1 (test .ensures) ∙ not-true (test .result) (c .if1 .taken))), tt)
 
@@ -45,7 +45,7 @@ module _ (c : tie.Else1) where
   fit : (number : ℕ) → start .args .code ≡ number → (operation : Snapshot → Operation) → bodyWith number ≡ aSnapshot operation
       → (supplied operation (snapshotOfBytes (drop 1 bytes)) ≡ operationOf bytes) × StandsFrom 1 bytes
   fit number k operation is =
-      let (h, e, one) = start .pre in
+      let ((h, e), one) = start .pre in
       (sym (after-code h operation (e ∙ k) is .long h), stands bytes 1 h is-read)
 
 returns-2 : tie.Need-returns-2
@@ -58,7 +58,7 @@ returns-3 c = fit (c .before) 9 (c .match .keys2) recoverFrom refl
 
 returns-4 : tie.Need-returns-4
 unfolding first codes
-returns-4 c = let (h, e, one) = start (c .before) .pre in fit (c .before) 14 (otherwise (otherwise one (c .match .rest .0 .1)) (c .match .rest .1)) judge refl
+returns-4 c = let ((h, e), one) = start (c .before) .pre in fit (c .before) 14 (otherwise (otherwise one (c .match .rest .0 .1)) (c .match .rest .1)) judge refl
 
 pub read-snapshot-spec : {M : Type 1} → statement M
 read-snapshot-spec = tie.close (tie.spec (λ c. search needs) (λ c. search needs) (λ c. search needs) (λ c κs. search needs) returns returns-2 returns-3 returns-4)

@@ -19,7 +19,7 @@ found-unsound : (c : tie.Else1) → Known false (start (c .before) .args .room .
 found-unsound c = let s = start (c .before) in subst (λ (known : Bool). Known known (s .args .room .now)) (c .if1 .left) (s .pre .0)
 
 perform-requires : tie.Need-perform-requires
-perform-requires c κs = let known = c .before .before in let pre = start (known .before) .pre in (found-sound known, pre .1, pre .2)
+perform-requires c κs = let known = c .before .before in let pre = start (known .before) .pre in (found-sound known, pre .1)
 
 returns : tie.Need-returns
 returns c (sound L) is-room = c .before .before .before .before .perform .ensures L is-room

@@ -12,8 +12,9 @@ use Rattle.room.specs.Room.{SoundRoom}
 use Rattle.snapshot_reader.specs.Standing.{IsSnapshot}
 use Rattle.frame_reader.specs.declared.Frame.{Frame}
 use Rattle.frame_reader.specs.Operations.{operationIn, StandsFrom, PartsWithin}
+use Rattle.answer_bytes.specs.Sizes.{longestOtherAnswer}
 use Rattle.frames.specs.Answering.{AnswersOperation, roomFor}
-use Rattle.frames.proofs.Arms.{is-snapshot, answers-supplied, at-least, takes-none, left-alone}
+use Rattle.frames.proofs.Arms.{is-snapshot, answers-supplied, room-bounds, takes-none, left-alone}
 use Rattle.frames.proofs.perform.Statement.{statement}
 use Rattle.frames.proofs.perform.Tie as tie
 
@@ -30,18 +31,18 @@ module _ (c : tie.After-slice-known2) where
   abbrev output : List ℕ
   output = start .args .output .now
 
-  ready : SoundRoom memory × (51 ≤ length output)
-  ready = (start .pre .0, omega (arith, at-least (operationIn bytes (start .args .frame)), start .pre .2))
+  ready : SoundRoom memory × (longestOtherAnswer ≤ length output)
+  ready = (start .pre .0, omega (arith, room-bounds (operationIn bytes (start .args .frame)) .0, start .pre .1 .1))
 
-  supplied-ready : {from : ℕ} → StandsFrom from bytes → SoundRoom memory × IsSnapshot (take (length bytes - from) (drop from bytes)) × (51 ≤ length output)
+  supplied-ready : {from : ℕ} → StandsFrom from bytes → SoundRoom memory × IsSnapshot (take (length bytes - from) (drop from bytes)) × (longestOtherAnswer ≤ length output)
   supplied-ready stands = (ready .0, is-snapshot stands, ready .1)
 
   module _ {f : Frame} (is : start .args .frame ≡ f) where
     parts : PartsWithin bytes f
-    parts = subst (PartsWithin bytes) is (start .pre .1)
+    parts = subst (PartsWithin bytes) is (start .pre .1 .0)
 
     room : roomFor (operationIn bytes f) ≤ length output
-    room = subst (λ f. roomFor (operationIn bytes f) ≤ length output) is (start .pre .2)
+    room = subst (λ f. roomFor (operationIn bytes f) ≤ length output) is (start .pre .1 .1)
 
     performs : {L : Ledger} {after output-after : List ℕ} {written : ℕ} → AnswersOperation (operationIn bytes f) (sound L) memory after output output-after written
         → AnswersOperation (operationIn bytes (start .args .frame)) (sound L) memory after output output-after written
@@ -55,14 +56,14 @@ returns-8 c L room =
     let call = c .before .before .before .before in
     let arm = call .before .before .before .before in
     let known = arm .before .before in
-    performs known (arm .enum-told2 .given .1) (answers-supplied (parts known (arm .enum-told2 .given .1)) restoreFrom (call .restore .ensures L room))
+    performs known (arm .enum-told2 .given .1) (answers-supplied (parts known (arm .enum-told2 .given .1)) restoreFrom (λ s e. call .restore .ensures s e L room))
 
 returns-9 : tie.Need-returns-9
 returns-9 c L room =
     let call = c .before .before .before .before in
     let arm = call .before .before .before .before in
     let known = arm .before .before in
-    performs known (arm .enum-told3 .given .1) (answers-supplied (parts known (arm .enum-told3 .given .1)) recoverFrom (call .recovery-restore .ensures L room))
+    performs known (arm .enum-told3 .given .1) (answers-supplied (parts known (arm .enum-told3 .given .1)) recoverFrom (λ s e. call .recovery-restore .ensures s e L room))
 
 returns-12 : tie.Need-returns-12
 returns-12 c L is-room =

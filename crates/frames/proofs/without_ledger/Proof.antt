@@ -9,10 +9,11 @@ use Rattle.rules.specs.AnswerNumbers.{unsound}
 use Rattle.rules.specs.Frames.{migrateTo, certify, judge, answer, answerOr23}
 use Rattle.frame_reader.specs.declared.Frame.{Frame}
 use Rattle.frame_reader.specs.Operations.{operationIn, PartsWithin}
+use Rattle.answer_bytes.specs.Sizes.{longestOtherAnswer}
 use Rattle.answer_bytes.specs.Writing.{WritesReply}
 use Rattle.answer_bytes.proofs.Arms.{matched}
 use Rattle.frames.specs.Answering.{roomFor}
-use Rattle.frames.proofs.Arms.{is-snapshot, supplied-is, writes-supplied, at-least, refuses}
+use Rattle.frames.proofs.Arms.{is-snapshot, supplied-is, writes-supplied, room-bounds, refuses}
 use Rattle.frames.proofs.without_ledger.Statement.{statement}
 use Rattle.frames.proofs.without_ledger.Tie as tie
 
@@ -26,8 +27,8 @@ module _ (c : tie.After-slice-known) where
   abbrev output : List ℕ
   output = start .args .output .now
 
-  enough : 51 ≤ length output
-  enough = omega (arith, at-least (operationIn bytes (start .args .frame)), start .pre .1)
+  enough : longestOtherAnswer ≤ length output
+  enough = omega (arith, room-bounds (operationIn bytes (start .args .frame)) .0, start .pre .1)
 
   module _ {f : Frame} (is : start .args .frame ≡ f) where
     parts : PartsWithin bytes f

@@ -7,10 +7,10 @@ use native.Mathlib.Omega.{arith}
 use borrow.Author.Needs.{needs}
 use lib.ListN.{length, take, drop}
 use lib.Seq.{length-front, length-take-le}
-use Rattle.rules.specs.AnswerNumbers.{Lent}
 use Rattle.rules.specs.Frames.{Operation, operationOf}
-use Rattle.frames.specs.Answering.{IsLent, AnswersOperation, roomFor}
-use Rattle.lines.proofs.AnswerLines.{room-bound, some-lent, within, put-back, line-written}
+use Rattle.frames.specs.Answering.{AnswersOperation, PromisesAnswer, longestAnswer, roomFor}
+use Rattle.frames.proofs.Arms.{room-bounds}
+use Rattle.lines.proofs.AnswerLines.{some-lent, within, put-back, line-written}
 use Rattle.lines.proofs.answer_frame.Statement.{statement}
 use Rattle.lines.proofs.answer_frame.Tie as tie
 
@@ -25,8 +25,8 @@ module _ (c : tie.After-room-for) where
   needed-is : c .room-for .result ≡ roomFor operation
   needed-is = let read = c .before .read in c .room-for .ensures (start .args .bytes .now) (read .ensures .1) ∙ ap roomFor (read .ensures .0)
 
-  needed-bound : c .room-for .result ≤ 14611
-  needed-bound = omega (arith, needed-is, room-bound operation)
+  needed-bound : c .room-for .result ≤ longestAnswer
+  needed-bound = omega (arith, needed-is, room-bounds operation .1)
 
 -- the answer in the output's front
 module _ (c : tie.After-answer) where
@@ -48,7 +48,7 @@ module _ (c : tie.After-answer) where
   kept : length part ≡ length (take needed output)
   kept = omega (arith, c .answer .kept)
 
-  answers : (l : Lent) → IsLent (start roomed .args .room .now) l → AnswersOperation (operation roomed) l (start roomed .args .room .now) (c .answer .last .0) output (part ++ drop needed output) (c .answer .result)
+  answers : PromisesAnswer (operation roomed) (start roomed .args .room .now) (c .answer .last .0) output (part ++ drop needed output) (c .answer .result)
   answers l is-lent =
       let given = c .answer .ensures l is-lent in
       let same : AnswersOperation (operation roomed) l (start roomed .args .room .now) (c .answer .last .0) (take needed output) part (c .answer .result) =
@@ -76,7 +76,7 @@ answer-requires : tie.Need-answer-requires
 answer-requires c κs =
     let roomed = c .before .before .before in
     let read = roomed .before .read in
-    (start roomed .pre, read .ensures .1, omega (arith, slice-aggregate-answer c, roomed .room-for .ensures (start roomed .args .bytes .now) (read .ensures .1)))
+    (start roomed .pre, (read .ensures .1, omega (arith, slice-aggregate-answer c, roomed .room-for .ensures (start roomed .args .bytes .now) (read .ensures .1))))
 
 finish-requires : tie.Need-finish-requires
 finish-requires c κs =

@@ -5,7 +5,7 @@ use Prim.Native.Nat.{ℕ, _≤_}
 use borrow.Author.Needs.{needs}
 use lib.ListN.{length}
 use lib.Seq.{length-take-le}
-use Rattle.rules.specs.Frames.{bytesOfLine}
+use Rattle.rules.specs.Frames.{longestLine, bytesOfLine}
 use Rattle.digits.specs.declared.Decoded.the-variants.{Bytes}
 use Rattle.lines.specs.Batching.{LineAnswered}
 use Rattle.lines.proofs.Decoded.{FrontHas, front-has, has-none, too-long, operation-is}
@@ -22,7 +22,7 @@ module _ (c : tie.After-bytes-of-line) where
   abbrev work : List ℕ
   work = c .bytes-of-line .last .1 .0
 
-  short : length line ≤ 29238
+  short : length line ≤ longestLine
   short = c .before .before .if1 .left
 
   front : {size : ℕ} → c .bytes-of-line .result ≡ Bytes size → FrontHas (bytesOfLine line) work size

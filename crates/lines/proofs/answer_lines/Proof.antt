@@ -10,11 +10,12 @@ use Rattle.rules.specs.Frames.{operationOfLine}
 use Rattle.records.specs.Rows.{put}
 use Rattle.records.proofs.Rows.{put-length}
 use Rattle.frames.specs.Answering.{IsLent, Known}
-use Rattle.lines.specs.Batching.{FirstLine, NextFound, NextAnswered}
+use Rattle.lines.specs.Batching.{FirstLine, PromisesLine, NextFound, NextAnswered, PromisesNext}
+use Rattle.lines.specs.declared.LineAnswer.the-variants as answered
 use Rattle.lines.specs.declared.Next.{Next}
 use Rattle.lines.specs.declared.Next.the-variants as next
 use Rattle.lines.proofs.AnswerLines.{some-lent}
-use Rattle.lines.proofs.StaysKnown.{Promise, stays-known}
+use Rattle.lines.proofs.StaysKnown.{stays-known}
 use Rattle.lines.proofs.Stretch.{Underway, begun, partFrom, part-length, rest-is, written-within, turn, stopped, at-the-end}
 use Rattle.lines.proofs.answer_lines.Statement.{statement}
 use Rattle.lines.proofs.answer_lines.Tie as tie
@@ -64,7 +65,7 @@ module _ (c : tie.After-answer-next Inv-loop μ-loop) where
     found : NextFound rest r
     found = subst (λ input. NextFound input r) (rest-is (turn-of .loop .used) (entry turn-of .args .input .now)) (subst (NextFound _) is (c .answer-next .ensures .0))
 
-    promise : (l : Lent) → IsLent (turn-of .loop .room) l → NextAnswered l rest (turn-of .loop .room) after part part-after r
+    promise : PromisesNext rest (turn-of .loop .room) after part part-after r
     promise l lent =
         subst (λ input. NextAnswered l input (turn-of .loop .room) after part part-after r) (rest-is (turn-of .loop .used) (entry turn-of .args .input .now))
         (subst (NextAnswered l (partFrom (turn-of .loop .used) (entry turn-of .args .input .now)) (turn-of .loop .room) after part part-after) is (c .answer-next .ensures .1 l lent))
@@ -95,7 +96,7 @@ module _ (c : tie.After-known-told Inv-loop μ-loop) where
   first : FirstLine (rest answer) end
   first = found answer (next.Answered end size) (c .before .end .given .1)
 
-  promised : Promise (operationOfLine (take end (rest answer))) (turn-of answer .loop .room) (after answer) (part answer) (part-after answer) size
+  promised : PromisesLine (operationOfLine (take end (rest answer))) (turn-of answer .loop .room) (after answer) (part answer) (part-after answer) (answered.Written size)
   promised = promise answer (next.Answered end size) (c .before .end .given .1)
 
   used-within : turn-of answer .loop .used + (end + 1) ≤ length (entry (turn-of answer) .args .input .now)

@@ -47,7 +47,7 @@ answer-requires c κs =
     let left = check .before .before in
     let read = left .before .before .read in
     let needed = left .before .room-for .ensures _ (read .ensures .1) in
-    (found (check .is-sound .result) (check .is-sound .ensures), read .ensures .1, omega (arith, left .if1 .left, needed))
+    (found (check .is-sound .result) (check .is-sound .ensures), (read .ensures .1, omega (arith, left .if1 .left, needed)))
 
 returns-2 : tie.Need-returns-2
 returns-2 c l is-lent =
