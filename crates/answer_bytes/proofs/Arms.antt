@@ -1,4 +1,4 @@
--- What an arm of a match owes: the answer that it matched is written, and each number that it carries by the word that stands for it.
+-- What every arm of a match over answers needs: the answer is the arm's (`matched`), and an amount goes by the word of its two's complement (`word-is`).
 use mathlib.Core.Path.{_≡_, sym, ap, subst}
 use mathlib.Core.List.{List}
 use Prim.Native.Nat.{ℕ}

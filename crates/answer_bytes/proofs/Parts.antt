@@ -1,4 +1,5 @@
--- An answer's parts, written one behind the other: its number, then each value that it carries.
+-- An answer part by part. `WritesReply` of some values, and the next one's bytes put where they end, is `WritesReply` of one value more (`part-behind`): the
+-- rules' bytes of a longer list are those of the shorter with the value's behind them.
 use mathlib.Core.Path.{_≡_, refl, sym, ap, ap₂, _∙_}
 use mathlib.Core.List.{List, [], _∷_, _++_, flatMap, append-assoc}
 use Prim.Native.Nat.{ℕ, _+_, _-_, _≤_}

@@ -1,4 +1,5 @@
--- A line turned into bytes from the front: what is done, and what a further pair of digits, a wrong one and the line's end come to.
+-- Decoding from the front, for `front_bytes` and `bytes_of_line`. `Underway` holds whatever characters follow, so that a pair more is one step of the rules'
+-- `bytesOfLine` behind those passed (`turn`), and a pair that is none, or one character left, makes no frame of any longer part (`stopped`).
 use mathlib.Core.Path.{_≡_, refl, sym, ap, subst, _∙_}
 use mathlib.Core.Logic.{_⊎_, inl, inr}
 use mathlib.Core.Bool.{and-false}

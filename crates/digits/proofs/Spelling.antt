@@ -1,4 +1,5 @@
--- Bytes turned into their line where they stand, from the last one back: what is done, and what a further byte adds.
+-- Spelling in place, for `spell`: `Underway` is kept from the last byte back to the first. A byte's two characters land where nothing unread stands, since i +
+-- i is not below i.
 use mathlib.Core.Path.{_≡_, refl, sym, ap, _∙_}
 use mathlib.Core.List.{List, _∷_, _++_}
 use Prim.Native.Nat.{ℕ, suc, _+_, _/_, _%_, _≤_, _<_}

@@ -1,4 +1,5 @@
--- The table that computes from a function has its rule at each entry: the code's entries are compared with it once.
+-- A list that is computed from a function has its rule at each entry, by induction. The code's table is that list by computation, so `gives` is asked for once
+-- where a table is made.
 use mathlib.Core.Path.{_≡_, refl}
 use mathlib.Core.List.{List, [], _∷_}
 use Prim.Native.Nat.{ℕ, zero, suc, _<_}

@@ -1,4 +1,5 @@
--- A frame by its first byte: the rules go on with the body of the code of that number, and an unknown code has none.
+-- The rules pick a frame's body by its first byte from their list of codes. `by-code` opens that choice for a number at hand; `unknown` goes over the whole
+-- list once, as all its numbers are from 1 to 14.
 use mathlib.Core.Path.{_≡_, refl, _∙_, ap}
 use mathlib.Core.Logic.{_⊎_, inl, inr}
 use mathlib.Core.Bool.{false}

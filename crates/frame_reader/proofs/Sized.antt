@@ -1,4 +1,5 @@
--- Frames of a known size: an operation where the frame is just so long, and none where it is shorter or longer.
+-- Frames whose length their code fixes. A body that takes the bytes up to a place (`Takes` of snapshot_reader) reads the frame when it ends there, and none
+-- when it is shorter or longer (`Sized`); a body is put together of its parts by `takes-then`.
 use mathlib.Core.Path.{_≡_, refl, _∙_, ap, subst}
 use mathlib.Core.List.{List}
 use mathlib.Core.Option.{none, some}

@@ -1,4 +1,5 @@
--- Frames with a snapshot at their end: the operation on that snapshot, and none where no snapshot stands there.
+-- Frames that end in a snapshot: the rules' reader of a snapshot takes all that is left, so the operation is there exactly when `snapshotOfBytes` reads the
+-- rest (`Supplied`). A value in front of it is passed over by `goes-on`.
 use mathlib.Core.Path.{_≡_, refl, sym, _∙_, ap}
 use mathlib.Core.Bool.{Bool, true, false, cond}
 use mathlib.Core.List.{List}

@@ -1,4 +1,5 @@
--- What the arms of an answering share: the snapshot that a frame hands in stands in the part lent, and frames that no arm names are known by their tags.
+-- What the arms of `without_ledger` and `perform` share. A snapshot that comes with a frame is read once, and the part lent is all that follows, so what is
+-- promised of the part's snapshot holds of the frame's operation (`on-supplied`). Frames that no arm names are told by their tags, one clause a frame.
 use mathlib.Core.Path.{_≡_, refl, sym, ap, subst, _∙_}
 use mathlib.Core.List.{List, [], _∷_}
 use mathlib.Core.Option.{Option, none, some}

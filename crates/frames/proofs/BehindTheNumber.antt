@@ -1,4 +1,5 @@
--- An answer that hands out a snapshot: the bytes are written into the part behind the answer's number, and the number last.
+-- A snapshot handed out: written into the part behind the number, then the number. With `put` for both writes the output is the number, the bytes, and what
+-- stood behind them (`number-before`).
 use mathlib.Core.Path.{_≡_, sym, ap, ap₂, _∙_}
 use mathlib.Core.List.{List, [], _∷_, _++_, append-nil}
 use Prim.Native.Nat.{ℕ, suc, _+_, _-_, _≤_}

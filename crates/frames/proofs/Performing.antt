@@ -1,4 +1,5 @@
--- What an operation performs on a sound ledger, with its reply written, answers the frame that asks for it.
+-- An operation performed on a sound ledger, and its reply written, answer the frame that asks for it: the rules' `answer` on what is lent sound is the
+-- operation's outcome, so both parts carry over along that equation.
 use mathlib.Core.Path.{_≡_, sym, ap, subst, _∙_}
 use mathlib.Core.List.{List}
 use mathlib.Core.Option.{some}

@@ -1,4 +1,5 @@
--- An output with room for the longest snapshot has room for each: what is longer gets the same answers, and 22 never comes.
+-- An output with room for the longest snapshot answers as one of just that room does: no snapshot is too long for either, by the rules' bound on a snapshot's
+-- bytes. So 22 is ruled out, and what is not written is 9 (`exhausted`).
 use mathlib.Core.Path.{_≡_, refl, sym, ap, _∙_}
 use mathlib.Core.Bool.{false}
 use mathlib.Core.List.{List, [], _∷_}

@@ -1,4 +1,5 @@
--- An answer's bytes at the front of the output become its line, and the line feed ends it.
+-- From bytes to a line, by equations of `take`, `drop` and `++`: a part answered and put back (`put-back`), spelled and ended (`fed`), is the answer's line
+-- (`line-written`). Besides, what `is_sound` finds as what is known of the memory, and the bound on an answer's room.
 use mathlib.Core.Path.{_≡_, refl, sym, ap, _∙_}
 use mathlib.Core.Bool.{Bool, true, false}
 use mathlib.Core.List.{List, [], _∷_, _++_, append-assoc}

@@ -1,4 +1,4 @@
--- What the decoding of a line says of the operation that it stands for.
+-- The operation of a line by what `bytes_of_line` answers: its contract goes by cases on the rules' bytes, so the answer tells which case it is.
 use mathlib.Core.Path.{_≡_, refl, sym, ap, _∙_}
 use mathlib.Core.List.{List}
 use mathlib.Core.Option.{Option, none, some}

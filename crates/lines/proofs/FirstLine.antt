@@ -1,4 +1,5 @@
--- The input's first line, its front decoded: the digits hold no line feed, and where the line goes on behind them it is no frame.
+-- The input's first line, its front decoded. A line feed is no digit, so what decodes holds none (`no-feed`); hence the first line feed behind the digits ends
+-- the line, and a line that goes on behind them decodes nowhere (`no-frame`).
 use mathlib.Core.Path.{_≡_, refl, sym, subst, ap, _∙_}
 use mathlib.Core.Logic.{_≢_, inl, inr, ⊎-elim}
 use mathlib.Core.List.{List, [], _∷_, _++_}

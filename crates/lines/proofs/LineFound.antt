@@ -1,4 +1,5 @@
--- A line in the input: what was passed has no line feed, and the line feed stands behind it.
+-- A line in the input, by induction over what was passed: `one-more` for a character that is no line feed, and the line with its line feed as a front of the
+-- input.
 use mathlib.Core.Path.{_≡_, sym, subst, ap, _∙_}
 use mathlib.Core.Logic.{_≢_}
 use mathlib.Core.List.{List, [], _∷_, _++_}

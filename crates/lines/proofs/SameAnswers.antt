@@ -1,5 +1,5 @@
--- What the contracts of a line and of a batch leave open: nothing. For any memory, any characters and any output, the answer, every byte of the memory and
--- every byte of the output are fixed; of a batch, how many lines it answers too.
+-- What the contracts of a line and of a batch leave open: nothing. One ledger has one room (`canonical`), and the rules fix the output. Of a batch the lines
+-- are fixed too: by induction, two fronts of one input that both stop for cause have the same first line, and so on (`same-lines`).
 use mathlib.Core.Path.{_≡_, refl, sym, subst, ap, _∙_}
 use mathlib.Core.Logic.{_⊎_, inl, inr}
 use mathlib.Core.Bool.{Bool}

@@ -1,4 +1,5 @@
--- What is known of the memory stays known: an answer leaves a sound ledger sound, and other memory as it was.
+-- What is known of the memory stays known. Every answer leaves what is lent or is the outcome of a ledger's operation (`lent-by`, a clause an operation): so a
+-- sound ledger stays sound, and what is unsound after was so before.
 use mathlib.Core.Path.{_≡_, refl, sym, subst, ap, _∙_}
 use mathlib.Core.Bool.{Bool, true, false}
 use mathlib.Core.List.{List, [], _∷_}

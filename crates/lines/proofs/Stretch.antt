@@ -1,4 +1,5 @@
--- A stretch of lines: a line answered behind others, and why a batch ends.
+-- A stretch of lines, for the loop of `answer_lines`. `Underway` is `Batches` without its end; `turn` adds one line at the end of each of its lists, by
+-- equations on `++`, and `stop` closes it with the reason why no further line is answered.
 use mathlib.Core.Path.{_≡_, refl, sym, subst, ap, _∙_}
 use mathlib.Core.Logic.{_⊎_, inl}
 use mathlib.Core.List.{List, [], _∷_, _++_, append-assoc}

@@ -1,4 +1,5 @@
--- What the answers of a certificate and of a proof begin with, and a yes or no behind it.
+-- The three words that a certificate and a proof begin with are those of one list of values (`opening`); a yes or no is a single byte, the same from either
+-- end.
 use mathlib.Core.Path.{_≡_, refl, ap, _∙_}
 use mathlib.Core.List.{List, [], _∷_, flatMap}
 use Prim.Native.Nat.{ℕ}

@@ -1,4 +1,4 @@
--- The room that a ledger of T names and R reservations takes, by whether T and R are in range.
+-- The room of a ledger that can be made, by cases on `made`: it is made exactly where T and R are in range.
 use mathlib.Core.Path.{_≡_, refl, sym, ap}
 use Prim.Native.Nat.{ℕ}
 use Rattle.rules.specs.RoomAndSoundLedger.{mostNames, mostReservations, InRange, fresh, made}

@@ -1,5 +1,5 @@
--- What the contracts leave open: nothing. For any memory, frame and output, the number returned, every byte of the memory and every byte of the output are
--- fixed, refusals included.
+-- What the contracts leave open: nothing, refusals included. One ledger has one room (`canonical`), and memory that is no room stays. Whether memory is a room
+-- need not be decided: equality of numbers and of bytes is, and holds whatever is lent (`by-lent`).
 use mathlib.Core.Path.{_≡_, refl, sym, ap, _∙_}
 use mathlib.Core.Logic.{_⊎_, inl, inr, ⊎-elim, _≢_}
 use mathlib.Core.List.{List}

@@ -1,4 +1,4 @@
--- `account_answers::write_ensured` meets its contract: each arm writes the case that it matched.
+-- `account_answers::write_ensured`: in each arm the answer is the case matched, so `matched` of answer_bytes takes over what the arm's writing promises.
 use mathlib.Core.Path.{ap}
 use borrow.Author.Needs.{needs}
 use Rattle.accounts.specs.Answers.{ensuredReply}

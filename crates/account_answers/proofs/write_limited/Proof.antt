@@ -1,4 +1,4 @@
--- `account_answers::write_limited` meets its contract: each arm writes the case that it matched.
+-- `account_answers::write_limited`: `matched` in each arm, as for `write_ensured`.
 use mathlib.Core.Path.{ap}
 use borrow.Author.Needs.{needs}
 use Rattle.accounts.specs.Answers.{limitedReply}

@@ -1,4 +1,4 @@
--- `account_answers::write_released` meets its contract: each arm writes the case that it matched.
+-- `account_answers::write_released`: `matched` in each arm; the amounts go by their words (`word-is`).
 use mathlib.Core.Path.{ap}
 use borrow.Author.Needs.{needs}
 use Rattle.reservations.specs.Answers.{releasedReply}

@@ -1,4 +1,4 @@
--- `account_answers::write_reserved` meets its contract: each arm writes the case that it matched.
+-- `account_answers::write_reserved`: `matched` in each arm; the amounts go by their words (`word-is`), and an id is its own word.
 use mathlib.Core.Path.{refl, ap}
 use borrow.Author.Needs.{needs}
 use Rattle.reservations.specs.Answers.{reservedReply}

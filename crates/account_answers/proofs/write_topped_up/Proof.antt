@@ -1,4 +1,4 @@
--- `account_answers::write_topped_up` meets its contract: each arm writes the case that it matched.
+-- `account_answers::write_topped_up`: `matched` in each arm; each of the three amounts goes by the word that was made of it (`word-is`).
 use mathlib.Core.Path.{ap}
 use borrow.Author.Needs.{needs}
 use Rattle.accounts.specs.Answers.{toppedUpReply}

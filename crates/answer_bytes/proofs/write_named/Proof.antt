@@ -1,4 +1,4 @@
--- `answer_bytes::write_named` meets its contract: the name stands behind the number.
+-- `answer_bytes::write_named`: `number-written`, and `name-written` behind it (Parts.antt).
 use mathlib.Core.Path.{_≡_}
 use lib.ListN.{length}
 use Rattle.rules.specs.RoomAndSoundLedger.{longestName}

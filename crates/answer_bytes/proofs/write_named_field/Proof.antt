@@ -1,4 +1,5 @@
--- `answer_bytes::write_named_field` meets its contract: the field's byte and the word stand behind the name. The making of a part gives its length.
+-- `answer_bytes::write_named_field`: `number-written`, `name-written`, and `value-behind` for the field's byte and for the word (Parts.antt). A part's length
+-- is from where it was made.
 use mathlib.Core.Path.{_≡_, _∙_}
 use native.Mathlib.Omega.{arith}
 use lib.ListN.{length}

@@ -1,4 +1,4 @@
--- `answer_bytes::write_named_word` meets its contract: the word stands behind the name. The making of a part gives its length.
+-- `answer_bytes::write_named_word`: `number-written`, `name-written` and `value-behind` (Parts.antt). A part's length is from where it was made.
 use mathlib.Core.Path.{_≡_}
 use native.Mathlib.Omega.{arith}
 use lib.ListN.{length}

@@ -1,4 +1,4 @@
--- `answer_bytes::write_number` meets its contract: an answer that carries nothing is its number.
+-- `answer_bytes::write_number`: `number-written` of Parts.antt at the part that holds the number.
 use Rattle.answer_bytes.proofs.Parts.{number-written}
 use borrow.Author.Needs.{needs}
 use Rattle.answer_bytes.proofs.write_number.Statement.{statement}

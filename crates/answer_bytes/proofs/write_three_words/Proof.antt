@@ -1,4 +1,5 @@
--- `answer_bytes::write_three_words` meets its contract: each word stands behind what was written before it. The making of a part gives its length.
+-- `answer_bytes::write_three_words`: `number-written`, and `value-behind` three times (Parts.antt). With so many parts search does not find their lengths: the
+-- making of a part gives each.
 use Rattle.answer_bytes.proofs.Parts.{number-written, value-behind}
 use borrow.Author.Needs.{needs}
 use Rattle.answer_bytes.proofs.write_three_words.Statement.{statement}

@@ -1,4 +1,4 @@
--- `answer_bytes::write_two_words` meets its contract: each word stands behind what was written before it.
+-- `answer_bytes::write_two_words`: `number-written`, and `value-behind` twice (Parts.antt).
 use Rattle.answer_bytes.proofs.Parts.{number-written, value-behind}
 use borrow.Author.Needs.{needs}
 use Rattle.answer_bytes.proofs.write_two_words.Statement.{statement}

@@ -1,4 +1,4 @@
--- `answer_bytes::write_word` meets its contract: the word stands behind the number.
+-- `answer_bytes::write_word`: `number-written`, and `value-behind` it (Parts.antt).
 use Rattle.answer_bytes.proofs.Parts.{number-written, value-behind}
 use borrow.Author.Needs.{needs}
 use Rattle.answer_bytes.proofs.write_word.Statement.{statement}

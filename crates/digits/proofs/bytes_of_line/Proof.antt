@@ -1,4 +1,5 @@
--- `digits::bytes_of_line` meets its contract: the pairs at the front are the whole line, or it is no frame.
+-- `digits::bytes_of_line`: what `front_bytes` promises is compared with the line's length. `whole` and `refused` of Decoding.antt turn it into the bytes of the
+-- whole line, or none.
 use native.Mathlib.Omega.{arith}
 use borrow.Author.Needs.{needs}
 use Rattle.digits.proofs.Decoding.{refused, whole}

@@ -1,4 +1,4 @@
--- `digits::character` meets its contract: the lent table's rule at the digit.
+-- `digits::character`: the lent table comes with its rule, `Gives characterOf`, and the proof is that rule at the digit.
 use borrow.Author.Needs.{needs}
 use Rattle.digits.specs.Tables.{Gives}
 use Rattle.digits.proofs.character.Statement.{statement}

@@ -1,4 +1,4 @@
--- `digits::digit` meets its contract: the lent table's rule at the character.
+-- `digits::digit`: the lent table comes with its rule, `Gives digitOf`, and the proof is that rule at the character; search finds that a byte is below 256.
 use borrow.Author.Needs.{needs}
 use Rattle.digits.specs.Tables.{Gives}
 use Rattle.digits.proofs.digit.Statement.{statement}

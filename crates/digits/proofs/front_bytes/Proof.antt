@@ -1,4 +1,5 @@
--- `digits::front_bytes` meets its contract. The invariant: the pairs passed are decoded, and their bytes stand at the room's front.
+-- `digits::front_bytes`, by a loop whose invariant is `Underway`: the bytes of the pairs passed stand at the room's front. Decoding.antt says what a further
+-- pair adds (`turn`), and what a wrong pair and the line's end come to (`wrong`, `finished`); here they are only handed the facts of the place.
 use mathlib.Core.Path.{_≡_, refl}
 use mathlib.Core.Logic.{inl, inr, ⊎-elim}
 use Prim.Native.Nat.{_+_, _-_, _≤_}

@@ -1,4 +1,4 @@
--- `digits::join` meets its contract.
+-- `digits::join`: a high digit shifted by four bits loses none, so by `or-shifted` the `|` is a sum.
 use mathlib.Core.Path.{_≡_}
 use Prim.Native.Nat.{_*_, _%_}
 use native.Mathlib.Omega.{arith}

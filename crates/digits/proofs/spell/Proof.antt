@@ -1,4 +1,5 @@
--- `digits::spell` meets its contract. The invariant: the bytes before i are still to read, and behind i + i stands the line of the others.
+-- `digits::spell`, by a loop whose invariant is `Underway`: the bytes before i are as they were, and from i + i on stands the line of the others. `turn` of
+-- Spelling.antt adds a byte; the loop counts down, so i itself is the measure.
 use mathlib.Core.Path.{_≡_, refl, subst}
 use Prim.Native.Nat.{suc, _-_, _≤_}
 use native.Mathlib.Omega.{arith}

@@ -1,4 +1,5 @@
--- `frame_reader::read` meets its contract: each known code is another reader's, and an unknown one is no frame.
+-- `frame_reader::read`: each arm's reader has promised the operation of its codes, so search returns it. By hand is what a range and a `|` leave of the code:
+-- which of 8, 9 and 14 it is, and that what no arm takes is above 14 or 0 (`unknown` of Codes.antt).
 use mathlib.Core.Path.{_≡_, refl, sym}
 use mathlib.Core.Logic.{_⊎_, inl, inr, ⊎-elim, _≢_}
 use mathlib.Core.List.{List}

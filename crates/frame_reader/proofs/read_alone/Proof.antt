@@ -1,4 +1,5 @@
--- `frame_reader::read_alone` meets its contract: the frame is its code and no more.
+-- `frame_reader::read_alone`: for each of its three codes `alone` of Sized.antt says what the frame is when it has one byte and when not; `misfit` goes through
+-- the codes.
 use mathlib.Core.Path.{_≡_, refl, sym, _∙_}
 use mathlib.Core.Logic.{_⊎_, inl, inr}
 use mathlib.Core.List.{List}

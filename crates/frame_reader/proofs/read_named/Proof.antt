@@ -1,4 +1,5 @@
--- `frame_reader::read_named` meets its contract: the amount stands after the name, and the frame ends with it.
+-- `frame_reader::read_named`: `naming` of Sized.antt, with the end of the name that byte 1 gives. `misfit` goes through the four codes for a frame of another
+-- length, `fit` takes the amount that was read as the one that stands behind the name.
 use mathlib.Core.Path.{_≡_, refl, sym, _∙_, ap}
 use mathlib.Core.List.{List}
 use mathlib.Core.Option.{none, some}

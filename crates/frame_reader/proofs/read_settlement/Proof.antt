@@ -1,4 +1,5 @@
--- `frame_reader::read_settlement` meets its contract: the identifier stands after the code, and a commit's amount after it.
+-- `frame_reader::read_settlement`: `committing` and `releasing` of Sized.antt fix the frame's length by its code; what was read is put in for the numbers that
+-- stand in the bytes.
 use mathlib.Core.Path.{_≡_, sym, _∙_, ap, ap₂}
 use mathlib.Core.Logic.{⊎-elim}
 use mathlib.Core.List.{List}

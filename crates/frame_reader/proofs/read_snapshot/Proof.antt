@@ -1,4 +1,5 @@
--- `frame_reader::read_snapshot` meets its contract: what follows the code is a snapshot, to the last byte.
+-- `frame_reader::read_snapshot`: `is_snapshot` has read the part behind the code. Where it says yes, `after-code` of Supplied.antt gives the operation on that
+-- snapshot, and where it says no, none (`misfit`, through the codes).
 use mathlib.Core.Path.{_≡_, refl, sym, _∙_}
 use mathlib.Core.Logic.{_⊎_, inl, inr}
 use mathlib.Core.Bool.{true, false}

@@ -1,4 +1,5 @@
--- `frame_reader::read_word_and_snapshot` meets its contract: 8 bytes follow the code, and then a snapshot to the last byte.
+-- `frame_reader::read_word_and_snapshot`: the same as `read_snapshot`, with a word between the code and the snapshot: `migrating` and `certifying` of
+-- Supplied.antt, and a frame too short for the word is none.
 use mathlib.Core.Path.{_≡_, sym, _∙_, ap}
 use mathlib.Core.Logic.{_⊎_, inl, inr}
 use mathlib.Core.Bool.{false}

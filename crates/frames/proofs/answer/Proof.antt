@@ -1,4 +1,5 @@
--- `frames::answer` meets its contract: what is known of the memory is what is lent.
+-- `frames::answer`: what is known of the memory says which of the two it is lent as; the other is absurd. A sound room goes to `perform`, and other memory is
+-- left alone, since an unsound ledger stays one (`still-unsound` of Arms.antt).
 use mathlib.Core.Path.{subst}
 use mathlib.Core.Bool.{Bool, true, false}
 use borrow.Author.Needs.{needs}

@@ -1,4 +1,4 @@
--- `frames::certificate_of_snapshot` meets its contract: the certificate is the rules' answer, and it is written.
+-- `frames::certificate_of_snapshot`: the call's answer is the rules', by its contract, and `matched` takes over what the writing promises.
 use mathlib.Core.Path.{sym}
 use borrow.Author.Needs.{needs}
 use Rattle.answer_bytes.proofs.Arms.{matched}

@@ -1,4 +1,5 @@
--- `frames::migrate` meets its contract: a refusal is written over an output that is as it was, and else the number before the migrated snapshot.
+-- `frames::migrate`: as for `snapshot`, the part behind the number is long enough that 22 never comes. A refusal has left the output as it was and is written
+-- over it; else the migrated snapshot, as long as the one that came, gets its number in front.
 use mathlib.Core.Path.{_≡_, sym, ap, subst, _∙_}
 use mathlib.Core.List.{List, [], _∷_, _++_}
 use mathlib.Core.Option.{Option, none, some}

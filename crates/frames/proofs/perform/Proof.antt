@@ -1,4 +1,5 @@
--- `frames::perform` meets its contract: each arm answers the frame that it matched, and frames that take no ledger are answered as without one.
+-- `frames::perform`: `performs` turns what is promised of the frame matched into what is asked of the frame at hand, arm by arm. A snapshot that came with the
+-- frame is the one in the part lent (`answers-supplied`), and frames that take no ledger leave it alone (`left-alone`, both of Arms.antt).
 use mathlib.Core.Path.{_≡_, sym, subst}
 use mathlib.Core.List.{List}
 use Prim.Native.Nat.{ℕ, _-_, _≤_}

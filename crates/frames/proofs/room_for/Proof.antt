@@ -1,4 +1,5 @@
--- `frames::room_for` meets its contract: a migration's snapshot is there, so its answer may be the longest.
+-- `frames::room_for`: a frame matched by name computes; a migration's operation is there, since its snapshot is; the others are known by their tags
+-- (`short-answer` of Arms.antt).
 use mathlib.Core.Path.{sym, ap, subst, _∙_}
 use borrow.Author.Needs.{needs}
 use Rattle.rules.specs.Frames.{migrateTo}

@@ -1,4 +1,5 @@
--- `frames::snapshot` meets its contract: 9 is written over an output that is as it was, and else the number before the snapshot.
+-- `frames::snapshot`: the part behind the number has room for the longest snapshot, so 22 never comes (RoomForSnapshots.antt). What is not written is 9, over
+-- an output that is as it was; what is written stands there already, and the number goes in front of it (BehindTheNumber.antt).
 use mathlib.Core.Path.{_≡_, refl, ap, subst, _∙_}
 use mathlib.Core.List.{List}
 use Prim.Native.Nat.{ℕ, _+_, _-_, _≤_}

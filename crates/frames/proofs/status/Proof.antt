@@ -1,4 +1,4 @@
--- `frames::status` meets its contract: the judgement is the rules' answer, and it is written.
+-- `frames::status`: the judgement is the rules' answer, by the call's contract, and `matched` takes over what the writing promises.
 use mathlib.Core.Path.{sym}
 use borrow.Author.Needs.{needs}
 use Rattle.answer_bytes.proofs.Arms.{matched}

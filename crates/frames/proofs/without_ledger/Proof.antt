@@ -1,4 +1,5 @@
--- `frames::without_ledger` meets its contract: each arm writes what the rules answer to the frame that it matched.
+-- `frames::without_ledger`: `told` turns what is promised of the frame matched into what is asked of the frame at hand. A snapshot that came with the frame is
+-- the one in the part lent (`writes-supplied`), and every frame that asks for a ledger is refused by its tag (`refuses`, both of Arms.antt).
 use mathlib.Core.Path.{_≡_, ap, subst}
 use mathlib.Core.List.{List}
 use Prim.Native.Nat.{ℕ, _≤_}

@@ -1,4 +1,4 @@
--- `lines::answer` meets its contract: either answer of the check is what is known of the memory.
+-- `lines::answer`: what `is_sound` decides is what is known of the memory (`found` of AnswerLines.antt); the rest is `answer_line`'s contract.
 use native.Mathlib.Omega.{arith}
 use borrow.Author.Needs.{needs}
 use Rattle.lines.proofs.AnswerLines.{found}

@@ -1,4 +1,5 @@
--- `lines::answer_frame` meets its contract: the answer written into the output's front is spelled there.
+-- `lines::answer_frame`: the frame read is the bytes' operation, so its room is known, and at most the longest answer's. The answer stands in the part lent;
+-- put back into the output (`put-back`) it is written there, and `line-written` of AnswerLines.antt makes its line.
 use mathlib.Core.Path.{_≡_, refl, sym, ap, subst, _∙_}
 use mathlib.Core.List.{List, _++_}
 use mathlib.Core.Option.{Option}

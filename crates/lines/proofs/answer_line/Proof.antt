@@ -1,4 +1,5 @@
--- `lines::answer_line` meets its contract: no operation where the line is too long or its characters are wrong, and else that of its bytes.
+-- `lines::answer_line`: Decoded.antt says which operation the line is: none where it is too long or does not decode, and else that of its bytes. Each return is
+-- the callee's promise carried along that equation.
 use mathlib.Core.Path.{_≡_, sym, subst}
 use mathlib.Core.List.{List}
 use Prim.Native.Nat.{ℕ, _≤_}

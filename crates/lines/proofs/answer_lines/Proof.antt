@@ -1,4 +1,5 @@
--- `lines::answer_lines` meets its contract. The invariant: some lines are answered, and what is known of the memory still holds.
+-- `lines::answer_lines`, by a loop whose invariant is `Underway` of Stretch.antt for whatever is lent, and that what is known of the memory still holds
+-- (StaysKnown.antt). `turn` adds a line; `stopped` and `at-the-end` make the batch of it.
 use mathlib.Core.Path.{_≡_, refl, subst, _∙_}
 use mathlib.Core.List.{List}
 use Prim.Native.Nat.{ℕ, _+_, _-_, _≤_}

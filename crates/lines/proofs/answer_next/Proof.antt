@@ -1,4 +1,5 @@
--- `lines::answer_next` meets its contract: the line ends behind the digits and is their frame, or further on and is none.
+-- `lines::answer_next`: the digits at the front hold no line feed, so the one found behind them ends the first line (`first`). Where it stands right behind
+-- them the line is their frame, and further on none; FirstLine.antt has each fact, and `told` makes the answer to the line the answer to the input.
 use mathlib.Core.Path.{_≡_, refl, sym, subst, ap, _∙_}
 use mathlib.Core.Logic.{inl}
 use mathlib.Core.List.{List}

@@ -1,4 +1,5 @@
--- `lines::answer_no_frame` meets its contract: the one byte 23, and what is lent stays as it is.
+-- `lines::answer_no_frame`: the answer 23 is one byte, the rules' reply to no operation whatever is lent, and `line-written` of AnswerLines.antt makes its
+-- line.
 use mathlib.Core.Path.{_≡_, refl}
 use mathlib.Core.List.{[], flatMap}
 use Prim.Native.Nat.{ℕ}

@@ -1,4 +1,4 @@
--- `lines::batch` meets its contract: either answer of the check is what is known of the memory.
+-- `lines::batch`: what `is_sound` decides is what is known of the memory (`found` of AnswerLines.antt); the rest is `answer_lines`' contract.
 use native.Mathlib.Omega.{arith}
 use borrow.Author.Needs.{needs}
 use Rattle.lines.proofs.AnswerLines.{found}

@@ -1,4 +1,4 @@
--- `lines::finish` meets its contract.
+-- `lines::finish`: `spell` leaves the line in front of what was behind it, and storing the line feed replaces the next character (`fed` of AnswerLines.antt).
 use mathlib.Core.Path.{refl}
 use borrow.Author.Needs.{needs}
 use Rattle.lines.proofs.AnswerLines.{fed}

@@ -1,4 +1,4 @@
--- `lines::line_end` meets its contract. The invariant: what was passed has no line feed.
+-- `lines::line_end`, by a loop whose invariant is that no character passed is a line feed; LineFound.antt adds a character and takes the end of the input.
 use mathlib.Core.Path.{refl}
 use Prim.Native.Nat.{_-_, _≤_}
 use native.Mathlib.Omega.{arith}

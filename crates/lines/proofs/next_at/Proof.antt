@@ -1,4 +1,4 @@
--- `lines::next_at` meets its contract.
+-- `lines::next_at`: the answer is the case matched, and `nextOf` computes on it.
 use mathlib.Core.Path.{sym, ap}
 use borrow.Author.Needs.{needs}
 use Rattle.lines.specs.Batching.{nextOf}

@@ -1,4 +1,5 @@
--- `snapshot_answers::write_certificate` meets its contract: each part stands behind what was written before it. The making of a part gives its length.
+-- `snapshot_answers::write_certificate`: `opening`, and `value-behind` of answer_bytes for each further part in turn. With so many parts search does not find
+-- their lengths: the making of a part gives each.
 use mathlib.Core.Path.{refl, _∙_}
 use borrow.Author.Needs.{needs}
 use Rattle.rules.specs.AnswerNumbers.{Amount, YesOrNo}

@@ -1,4 +1,4 @@
--- `snapshot_answers::write_judged` meets its contract: each arm writes the verdict that it matched, of the row's name.
+-- `snapshot_answers::write_judged`: in each arm the verdict is the one matched and the name is the same (`told`); the arm's writing promises the rest.
 use mathlib.Core.Path.{_≡_, refl, ap}
 use mathlib.Core.List.{List}
 use Prim.Native.Nat.{ℕ}

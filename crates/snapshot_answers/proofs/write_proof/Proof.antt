@@ -1,4 +1,4 @@
--- `snapshot_answers::write_proof` meets its contract: each part stands behind what was written before it.
+-- `snapshot_answers::write_proof`: `opening`, and `value-behind` of answer_bytes for both totals and the last byte.
 use mathlib.Core.Path.{refl, _∙_}
 use mathlib.Core.Bool.{true}
 use borrow.Author.Needs.{needs}

@@ -1,4 +1,5 @@
--- `zatovola::zatovola_answer` meets its contract: the frame read is the bytes' operation, and either answer of the check is what is known of the memory.
+-- `zatovola::zatovola_answer`: the frame read is the bytes' operation, so `room_for` is its room, and the test tells which promise is due. What `is_sound`
+-- decides is what is known of the memory (`found` of lines).
 use mathlib.Core.Path.{_≡_, refl, ap, subst, _∙_}
 use mathlib.Core.Option.{Option}
 use Prim.Native.Nat.{_≤_}

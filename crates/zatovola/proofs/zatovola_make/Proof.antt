@@ -1,4 +1,4 @@
--- `zatovola::zatovola_make` meets its contract: each arm answers the number of the case that it matched.
+-- `zatovola::zatovola_make`: `make` has promised the rest; each arm's number is `madeNumber` of the case that it matched.
 use mathlib.Core.Path.{sym, ap}
 use borrow.Author.Needs.{needs}
 use Rattle.zatovola.specs.Interface.{madeNumber}

@@ -1,4 +1,4 @@
--- `zatovola::zatovola_room_size` meets its contract: each refusal is of a T or an R that is out of range.
+-- `zatovola::zatovola_room_size`: what the tests leave is that T and R are in range, and RoomSize.antt has the size there and outside.
 use mathlib.Core.Logic.{⊎-elim}
 use native.Mathlib.Omega.{arith}
 use borrow.Author.Tests.{ltb-true, ltb-false}

@@ -1,4 +1,4 @@
--- `cases::case::each` ends and stays within the input.
+-- `cases::case::each`, by a loop whose invariant is that what is lent keeps its length; each turn goes past a line's end, at most one behind the input.
 use mathlib.Core.Path.{_≡_}
 use Prim.Native.Nat.{_+_, _-_}
 use lib.ListN.{length}

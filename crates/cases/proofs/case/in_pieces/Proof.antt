@@ -1,4 +1,4 @@
--- `cases::case::in_pieces` ends and stays within the input and the output.
+-- `cases::case::in_pieces`, by a loop whose invariant is that what was used is at most what was brought, and that at most the input; a piece has a character.
 use mathlib.Core.Path.{_≡_}
 use Prim.Native.Nat.{_-_, _≤_}
 use lib.ListN.{length}

@@ -1,4 +1,4 @@
--- `cases::lent::fill` ends and stays within the room.
+-- `cases::lent::fill`, by a loop whose invariant is that the end is within the room, which a store leaves as long as it was.
 use mathlib.Core.Path.{_≡_}
 use Prim.Native.Nat.{_-_, _≤_}
 use lib.ListN.{length}

@@ -1,4 +1,4 @@
--- `cases::shown::bytes` ends and stays within the bytes.
+-- `cases::shown::bytes`, by a loop that stays within the bytes.
 use Prim.Native.Nat.{_-_, _≤_}
 use lib.ListN.{length}
 use borrow.Author.Needs.{needs}

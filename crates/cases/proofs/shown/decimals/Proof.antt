@@ -1,4 +1,4 @@
--- `cases::shown::decimals` ends and stays within the answer.
+-- `cases::shown::decimals`, by a loop that stays within the answer: a word is taken only where eight bytes are left.
 use Prim.Native.Nat.{_-_, _≤_}
 use lib.ListN.{length}
 use borrow.Author.Needs.{needs}

@@ -1,4 +1,4 @@
--- `cases::text::place` ends and stays within the list.
+-- `cases::text::place`, by a loop without an invariant: the list's length bounds each word that is looked for, and each turn goes past one.
 use Prim.Native.Nat.{_+_, _-_}
 use lib.ListN.{length}
 use borrow.Author.Needs.{needs}

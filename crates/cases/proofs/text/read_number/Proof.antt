@@ -1,4 +1,4 @@
--- `cases::text::read_number` ends, and only a number with room for a further digit gets one.
+-- `cases::text::read_number`, by a loop that stays within the word: the test before each digit leaves room for it, and for no invariant on the value.
 use Prim.Native.Nat.{_-_, _≤_}
 use lib.ListN.{length}
 use borrow.Author.Needs.{needs}

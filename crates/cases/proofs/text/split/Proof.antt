@@ -1,4 +1,4 @@
--- `cases::text::split` meets its contract and ends.
+-- `cases::text::split`, by a loop from the word's end down: `last` stays within the words, and counts down.
 use Prim.Native.Nat.{_≤_}
 use lib.ListN.{length}
 use borrow.Author.Needs.{needs}

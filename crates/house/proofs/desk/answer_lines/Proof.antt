@@ -1,4 +1,4 @@
--- `house::desk::answer_lines` meets its contract: what is used is within the input, turn by turn.
+-- `house::desk::answer_lines`, by a loop whose invariant keeps `used` within the input; what a batch used and wrote is within its parts by its contract.
 use mathlib.Core.Path.{_≡_, sym}
 use Prim.Native.Nat.{ℕ, _-_, _≤_}
 use native.Mathlib.Omega.{arith}

@@ -1,4 +1,4 @@
--- `house::desk::close` stays within the input: there is room for the line feed.
+-- `house::desk::close`: what is held is shorter than the input, so there is room for the line feed; a store keeps the length.
 use mathlib.Core.Path.{sym, _∙_}
 use Prim.Native.Nat.{_+_}
 use native.Mathlib.Omega.{arith}

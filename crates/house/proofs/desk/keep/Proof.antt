@@ -1,4 +1,4 @@
--- `house::desk::keep` meets its contract and stays within the input.
+-- `house::desk::keep`, by a loop whose invariant is that `to` is at most `at`, and `at` at most the end.
 use mathlib.Core.Path.{_≡_}
 use Prim.Native.Nat.{ℕ, _-_, _≤_}
 use native.Mathlib.Omega.{arith}

@@ -1,4 +1,4 @@
--- `house::desk::open` ends, and holds less than the input between its turns.
+-- `house::desk::open`, by a loop whose invariant is that less than the input is held, as each turn promises; the turns count down.
 use mathlib.Core.Path.{_≡_}
 use Prim.Native.Nat.{ℕ, _<_}
 use native.Mathlib.Omega.{arith}

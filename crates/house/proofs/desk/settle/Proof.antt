@@ -1,4 +1,4 @@
--- `house::desk::settle` meets its contract: what was used is within what was read.
+-- `house::desk::settle`: what `answer_lines` used is within the part that it was lent, so it ends within what was read (`within`).
 use mathlib.Core.Path.{subst}
 use Prim.Native.Nat.{_+_, _-_, _≤_}
 use native.Mathlib.Omega.{arith}

@@ -1,4 +1,5 @@
--- `house::desk::turn` meets its contract: what was read is within the input, and so is the end of a line that is passed over.
+-- `house::desk::turn`: what `count` gives is within the part read into, and a line feed found is below the end of what was read (`below`). Each way out gives
+-- the memory and the buffers back as long as they were; the paths to these facts are named first.
 use mathlib.Core.Path.{_≡_, sym, subst, _∙_}
 use mathlib.Core.List.{List}
 use Prim.Native.Nat.{ℕ, _+_, _≤_, _<_}
