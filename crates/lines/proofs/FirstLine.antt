@@ -8,8 +8,8 @@ use Prim.Native.Nat.{ℕ, suc, _+_, _-_, _≤_, _<_}
 use native.Mathlib.Omega.{arith}
 use lib.ListN.{length, take, drop, take-append-drop}
 use lib.Seq.{take-add, take-take, length-take-le}
-use Rattle.rules.specs.Lists.{All}
 use Rattle.rules.specs.Frames.{Operation, longestLine, lineFeed, digitOf, byteBefore, bytesOfLine, operationOf, operationOfLine}
+use Rattle.numbers.proofs.Bytes.{all-join}
 use Rattle.digits.specs.Decoding.{FrontDecoded}
 use Rattle.digits.proofs.Decoding.{wrong-pair}
 use Rattle.soundness.proofs.Deciding.{less-or-not}
@@ -20,10 +20,6 @@ use Rattle.lines.specs.declared.LineEnd.the-variants as found
 use Rattle.lines.specs.declared.Next.{Next}
 use Rattle.lines.proofs.Decoded.{too-long, operation-is}
 use Rattle.lines.proofs.LineFound.{line-stands}
-
-all-append : {A : Type 0} (P : A → Type 0) (xs ys : List A) → All P xs → All P ys → All P (xs ++ ys)
-all-append P [] ys h k = k
-all-append P (x ∷ xs) ys (p, h) k = (p, all-append P xs ys h k)
 
 -- a line feed is no digit
 no-feed : (xs : List ℕ) → (bytesOfLine xs ≡ none → ⊥) → IsLine xs
@@ -44,10 +40,10 @@ module _ (input : List ℕ) (from : ℕ) (front : IsLine (take from input)) wher
   first-line end (behind, within, feed, is-line) =
       let end-is : end ≡ from + (end - from) = omega arith in
       let whole : take end input ≡ take from input ++ take (end - from) (drop from input) = ap (λ n. take n input) end-is ∙ take-add from (end - from) input in
-      record { inside = within; feed = feed; is-line = subst IsLine (sym whole) (all-append (λ c. c ≢ lineFeed) (take from input) (take (end - from) (drop from input)) front is-line) }
+      record { inside = within; feed = feed; is-line = subst IsLine (sym whole) (all-join (λ c. c ≢ lineFeed) (take from input) (take (end - from) (drop from input)) front is-line) }
 
   pub no-line : FirstFeed input from found.Missing → IsLine input
-  no-line is-line = subst IsLine (take-append-drop from input) (all-append (λ c. c ≢ lineFeed) (take from input) (drop from input) front is-line)
+  no-line is-line = subst IsLine (take-append-drop from input) (all-join (λ c. c ≢ lineFeed) (take from input) (drop from input) front is-line)
 
 -- ── the front decoded ──────────────────────────────────────────────────────────────────────────
 

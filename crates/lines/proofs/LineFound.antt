@@ -7,13 +7,9 @@ use Prim.Native.Nat.{ℕ, suc, _+_, _-_, _≤_, _<_}
 use native.Mathlib.Omega.{arith}
 use lib.ListN.{length, getD, take, drop, length-drop, take-append-drop}
 use lib.Seq.{take-suc, take-all, getD-drop, drop-cons}
-use Rattle.rules.specs.Lists.{All}
 use Rattle.rules.specs.Frames.{lineFeed}
+use Rattle.rules.proofs.Lists.{all-more}
 use Rattle.lines.specs.Batching.{IsLine, FirstLine}
-
-pub all-end : {A : Type 0} (P : A → Type 0) (xs : List A) (x : A) → All P xs → P x → All P (xs ++ (x ∷ []))
-all-end P [] x h p = (p, tt)
-all-end P (y ∷ xs) x (h, k) p = (h, all-end P xs x k p)
 
 -- ── passed without a line feed ─────────────────────────────────────────────────────────────────
 
@@ -26,7 +22,7 @@ one-more input from at h l n before =
     let here : getD (drop from input) (at - from) 0 ≡ getD input at 0 = getD-drop from input (at - from) 0 ∙ ap (λ k. getD input k 0) (omega arith) in
     let longer = take-suc (drop from input) (at - from) 0 (omega (arith, length-drop from input)) in
     subst IsLine (sym (ap (λ n. take n (drop from input)) next ∙ longer))
-    (all-end (λ c. c ≢ lineFeed) (take (at - from) (drop from input)) (getD (drop from input) (at - from) 0) before (subst (λ c. c ≢ lineFeed) (sym here) n))
+    (all-more (λ c. c ≢ lineFeed) (take (at - from) (drop from input)) (getD (drop from input) (at - from) 0) before (subst (λ c. c ≢ lineFeed) (sym here) n))
 
 pub to-the-end : (input : List ℕ) (from at : ℕ) → length input ≤ at → IsLine (take (at - from) (drop from input)) → IsLine (drop from input)
 to-the-end input from at h line = subst IsLine (take-all (at - from) (drop from input) (omega (arith, length-drop from input))) line

@@ -13,13 +13,14 @@ use Rattle.rules.specs.Lists.{All}
 use Rattle.rules.specs.AnswerNumbers.{Lent, unsound}
 use Rattle.rules.specs.Frames.{Operation, lentAfter, lineFeed, answerLine, answerOr23, answerToLine, operationOfLine, answersToLines}
 use Rattle.rules.proofs.EveryLine.{answers-append}
+use Rattle.rules.proofs.Lists.{all-more}
 use Rattle.records.specs.Rows.{row, put}
 use Rattle.records.proofs.Rows.{two-halves}
 use Rattle.frames.specs.Answering.{IsLent}
 use Rattle.lines.specs.Batching.{lineRoom, IsLine, FirstLine, withFeeds, AnswersLine, HadRoom, NextTooLong, PromisesLine, PromisesNext, Batches}
 use Rattle.lines.specs.declared.LineAnswer.the-variants as answered
 use Rattle.lines.specs.declared.Next.the-variants as next
-use Rattle.lines.proofs.LineFound.{all-end, feed-behind}
+use Rattle.lines.proofs.LineFound.{feed-behind}
 use Rattle.lines.proofs.StaysKnown.{unsound-after}
 
 -- ── a line answered behind others ──────────────────────────────────────────────────────────────
@@ -100,7 +101,7 @@ turn {l} {input} {before} {room} {output₀} {output} {used} {written} room-afte
     let rest = drop (written + size) output₀ in
     record {
       lines = u .lines ++ (line ∷ []);
-      are-lines = all-end IsLine (u .lines) line (u .are-lines) (f .is-line);
+      are-lines = all-more IsLine (u .lines) line (u .are-lines) (f .is-line);
       input-used =
           take-add used (end + 1) input ∙ ap (λ front. front ++ take (end + 1) (drop used input)) (u .input-used)
           ∙ ap (λ more. withFeeds (u .lines) ++ more) (feed-behind (drop used input) f) ∙ sym (feeds-end (u .lines) line);
