@@ -35,7 +35,7 @@ mod lent;
 mod shown;
 mod text;
 
-use lines::DESK_ROOM;
+use records::LARGEST_ROOM;
 
 // The most that the lines may lend: the largest room as memory, and output for any one answer line.
 const OUTPUT_SIZE: usize = 30000;
@@ -45,7 +45,7 @@ const INPUT_SIZE: usize = 65536;
 
 fn main() {
     let mut input = [0u8; INPUT_SIZE];
-    let mut memory = [0u8; DESK_ROOM];
+    let mut memory = [0u8; LARGEST_ROOM];
     let mut supplied = [0u8; INPUT_SIZE];
     let mut output = [0u8; OUTPUT_SIZE];
     let size = io::read_full(0, &mut input);

@@ -15,6 +15,7 @@ use Rattle.numbers.specs.declared.Microcents.{Microcents}
 use Rattle.totals.specs.declared.Total.{Total}
 use Rattle.totals.specs.Totals.{valueOf}
 use Rattle.moves.specs.Moves.{kept, keptSeat}
+use Rattle.records.specs.Layout.{placeSize, placeStart}
 use Rattle.records.specs.Rows.{row}
 use Rattle.records.specs.Records.{sizesOf, placeOf}
 use Rattle.records.specs.declared.Place.{Place}
@@ -59,7 +60,7 @@ module _ (f : AmountKind) where
 
   module _ (xs : List ℕ) (L : Ledger) (room : IsRoom xs L) where
     abbrev amount : ℕ → ℕ
-    amount i = f .inPlace (placeOf (row 66 (56 + 66 * i) xs))
+    amount i = f .inPlace (placeOf (row placeSize (placeStart i) xs))
 
     pub places-none : (t : Total) → Totalled 0 (pos 0) t → PlacesAdded xs 0 t
     places-none t (e, moved) = (e ∙ ap pos (sym (sum-none (f .inPlace) xs (sized xs L room))), moved)
@@ -88,7 +89,7 @@ record-small p h = go (p .seat .account) h
     go none h = record { initial = omega arith; remaining = omega arith; committed = omega arith }
     go (some c) (e, h) = record { initial = h; remaining = omega arith; committed = omega arith }
 
-pub amounts-small : (xs : List ℕ) (L : Ledger) → IsRoom xs L → (i : ℕ) → i < sizesOf xs .used → AmountsSmall (placeOf (row 66 (56 + 66 * i) xs))
+pub amounts-small : (xs : List ℕ) (L : Ledger) → IsRoom xs L → (i : ℕ) → i < sizesOf xs .used → AmountsSmall (placeOf (row placeSize (placeStart i) xs))
 amounts-small xs L room i h =
     let s = sized xs L room in
     let all : All AmountsSmall (usedPlaces (contentsOf xs)) = rw (places-are xs L room) (all-images placeRecord AmountsSmall (L .places) (all-map (λ p. AddsUp (p .seat .account)) _ record-small (L .places) (room .sound .accounts-add-up))) in

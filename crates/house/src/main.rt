@@ -2,7 +2,7 @@
 // room. What one read brings is answered, every whole line of it, before the next read.
 mod desk;
 
-use lines::DESK_ROOM;
+use records::LARGEST_ROOM;
 
 const MOST_NAMES: u64 = rules::MOST_NAMES as u64;
 
@@ -14,7 +14,7 @@ const READ_SIZE: usize = 65536;
 const WRITE_SIZE: usize = 65536;
 
 fn main() {
-    let mut room = [0u8; DESK_ROOM];
+    let mut room = [0u8; LARGEST_ROOM];
     let mut input = [0u8; READ_SIZE];
     let mut output = [0u8; WRITE_SIZE];
     soundness::make(&mut room, MOST_NAMES, MOST_RESERVATIONS);

@@ -14,18 +14,6 @@ ghost use Rattle.lines.specs.Batching.{PromisesLine, Ready, FirstFeed, n
 
 pub const LINE_FEED: u8 = 10;
 
-// The bytes of a room: its head, a place for each name, a booking for each reservation.
-pub const HEAD_SIZE: usize = 56;
-
-pub const PLACE_SIZE: usize = 66;
-
-pub const BOOKING_SIZE: usize = 18;
-
-// The largest room, the desk's.
-pub const DESK_ROOM: usize = HEAD_SIZE
-    + PLACE_SIZE * rules::MOST_NAMES
-    + BOOKING_SIZE * rules::MOST_RESERVATIONS;
-
 // How many characters of an answer line were written, its line feed among them, or that its longest answer has no room.
 pub enum LineAnswer {
     Written(usize),

@@ -63,8 +63,6 @@ pub enum Releasing {
     Returned(Seat),
 }
 
-const M: u64 = 9223372036854775807;
-
 // Opens an account with the amount, where the name has none.
 pub fn ensure(seat: Seat, amount: Microcents) -> Ensuring
     requires { ⌜ SeatSound seat ⌝ }
@@ -158,7 +156,7 @@ pub fn reserve(seat: Seat, cost: Microcents, next_id: u64) -> Reserving
     if exceeds(seat.limit, reserved) {
         return Reserving::Exposed(seat.reserved, seat.limit);
     }
-    if next_id == M {
+    if next_id == rules::M {
         return Reserving::Overflow(seat.reserved);
     }
     if seat.remaining < asked {

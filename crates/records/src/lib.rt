@@ -58,6 +58,11 @@ const OWNER_OFFSET: usize = AMOUNT_OFFSET + 8;
 
 pub const BOOKING_SIZE: usize = OWNER_OFFSET + 2;
 
+// The largest room, the desk's: its head, a place for each name, a booking for each reservation.
+pub const LARGEST_ROOM: usize = HEAD_SIZE
+    + PLACE_SIZE * rules::MOST_NAMES
+    + BOOKING_SIZE * rules::MOST_RESERVATIONS;
+
 // What a name has: its amounts, whether it has an account, and its limit.
 pub struct Place {
     pub initial: u64,

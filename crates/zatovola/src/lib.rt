@@ -12,11 +12,11 @@ const MOST_NAMES: u64 = rules::MOST_NAMES as u64;
 
 const MOST_RESERVATIONS: u64 = rules::MOST_RESERVATIONS as u64;
 
-const HEAD_SIZE: u64 = lines::HEAD_SIZE as u64;
+const HEAD_SIZE: u64 = records::HEAD_SIZE as u64;
 
-const PLACE_SIZE: u64 = lines::PLACE_SIZE as u64;
+const PLACE_SIZE: u64 = records::PLACE_SIZE as u64;
 
-const BOOKING_SIZE: u64 = lines::BOOKING_SIZE as u64;
+const BOOKING_SIZE: u64 = records::BOOKING_SIZE as u64;
 
 // How many bytes the room for T names and R reservations takes, or 0 where T or R is out of range.
 #[no_mangle]
