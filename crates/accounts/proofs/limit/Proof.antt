@@ -1,4 +1,4 @@
--- `accounts::limit` meets its contract: as of `ensure`: the name's seat is `Seen`, the rule by value decides, and each answer is carried out by one law of
+-- `accounts::limit` meets its contract: as for `ensure`, the name's seat is `Seen`, the rule by value decides, and each answer is carried out by one law of
 -- Performing.
 use mathlib.Core.Path.{_≡_, sym, _∙_, ap, subst}
 use mathlib.Core.List.{[]}

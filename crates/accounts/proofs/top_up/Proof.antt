@@ -1,4 +1,4 @@
--- `accounts::top_up` meets its contract: as of `ensure`; what is carried out are the amounts of a seat that is sound, so each is at most M.
+-- `accounts::top_up` meets its contract: as for `ensure`; what is carried out are the amounts of a seat that is sound, so each is at most M.
 use mathlib.Core.Path.{_≡_, sym, _∙_, ap, subst}
 use mathlib.Core.List.{List, [], _∷_}
 use native.Mathlib.Omega.{arith}

@@ -1,4 +1,4 @@
--- `reservations::release` meets its contract: as of `commit`: what follows from a booking that was found is one law (`found-booking`), each answer another
+-- `reservations::release` meets its contract: as for `commit`, what follows from a booking that was found is one law (`found-booking`), each answer another
 -- of Ending.
 use mathlib.Core.Path.{_≡_, refl, sym, ap, ap₂, subst, _∙_}
 use mathlib.Core.List.{List, [], _∷_}
