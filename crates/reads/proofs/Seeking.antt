@@ -16,7 +16,6 @@ use Rattle.rules.proofs.Tests.{by-bool, by-test}
 use Rattle.moves.specs.Moves.{accountIn, accountOf, kept, keptSeat, SeatSound}
 use Rattle.moves.specs.declared.Seat.{Seat}
 use Rattle.room.specs.Contents.{contentsOf, usedPlaces, placeOfName}
-use Rattle.moves.proofs.Cases.{accountIn}
 use Rattle.room.specs.Room.{IsRoom, SoundRoom}
 use Rattle.room.specs.Seats.{seatFound}
 use Rattle.room.specs.declared.Found.{Found}
