@@ -1,5 +1,5 @@
 -- From bytes to a line, by equations of `take`, `drop` and `++`: a part answered and put back (`put-back`), spelled and ended (`fed`), is the answer's line
--- (`line-written`). Besides, what `is_sound` finds as what is known of the memory, and the bound on an answer's room.
+-- (`line-written`). Besides, what `is_sound` decides as what is known of the memory (`found`), and so as one of the two that it can be lent as.
 use mathlib.Core.Path.{_≡_, refl, sym, ap, _∙_}
 use mathlib.Core.Bool.{Bool, true, false}
 use mathlib.Core.List.{List, [], _∷_, _++_, append-assoc}

@@ -1,5 +1,5 @@
--- A line in the input, by induction over what was passed: `one-more` for a character that is no line feed, and the line with its line feed as a front of the
--- input.
+-- A line in the input. A character more at the end of those passed (`take-suc`) that is no line feed either leaves them without one (`one-more`); the line feed
+-- that ends them splits the input there.
 use mathlib.Core.Path.{_≡_, sym, subst, ap, _∙_}
 use mathlib.Core.Logic.{_≢_}
 use mathlib.Core.List.{List, [], _∷_, _++_}

@@ -1,4 +1,4 @@
--- `cases::text::read_number`, by a loop that stays within the word: the test before each digit leaves room for it, and for no invariant on the value.
+-- `cases::text::read_number`, by a loop that stays within the word. The test before each digit leaves room for it, so that nothing need be kept of the value.
 use Prim.Native.Nat.{_-_, _≤_}
 use lib.ListN.{length}
 use borrow.Author.Needs.{needs}
