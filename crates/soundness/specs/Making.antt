@@ -11,8 +11,8 @@ use Rattle.room.specs.Room.{contentsIn}
 use Rattle.soundness.specs.declared.Made.{Made}
 use Rattle.soundness.specs.declared.Made.the-variants.{Done, UnsoundLedger}
 
--- the memory is the room of this ledger
-pub record Becomes (L : Ledger) (before : List ℕ) (r : Made) (after : List ℕ) : Type 0 where
+-- done: the memory is overwritten with this ledger
+pub record Overwritten (L : Ledger) (before : List ℕ) (r : Made) (after : List ℕ) : Type 0 where
   pub answer : r ≡ Done
   pub size : length after ≡ length before
   pub holds : contentsOf after ≡ contentsIn L
@@ -22,6 +22,6 @@ pub record Untouched (before : List ℕ) (r : Made) (after : List ℕ) : Type 0 
   pub same : after ≡ before
 
 pub record Makes (names reservations : ℕ) (before : List ℕ) (r : Made) (after : List ℕ) : Type 0 where
-  pub overwrites : (L : Ledger) → made names reservations ≡ some L → length before ≡ roomSize names reservations → Becomes L before r after
+  pub overwrites : (L : Ledger) → made names reservations ≡ some L → length before ≡ roomSize names reservations → Overwritten L before r after
   pub out-of-range : made names reservations ≡ none → Untouched before r after
   pub other-size : (length before ≡ roomSize names reservations → ⊥) → Untouched before r after
