@@ -15,7 +15,9 @@
 #include <sys/mman.h>
 #include <time.h>
 
-enum { PAGE = 4096, LARGEST_ROOM = 35384, LARGEST_INPUT = 32768, LARGEST_OUTPUT = 40000 };
+/* The records of a room (docs/DECISIONS.md, 19), and the most names and reservations. */
+enum { HEAD = 56, PLACE = 66, BOOKING = 18, MOST_NAMES = 256, MOST_RESERVATIONS = 1024 };
+enum { PAGE = 4096, LARGEST_ROOM = HEAD + PLACE * MOST_NAMES + BOOKING * MOST_RESERVATIONS, LARGEST_INPUT = 32768, LARGEST_OUTPUT = 40000 };
 
 static uint64_t chance_state;
 
@@ -126,9 +128,9 @@ static size_t put_lines(uint8_t *to) {
 
 /* Sometimes a room of other sizes takes the place of the one that is worked on. */
 static void fresh(void) {
-    uint64_t names = 1 + below(below(3) == 0 ? 256 : 6), reservations = 1 + below(below(3) == 0 ? 1024 : 6);
+    uint64_t names = 1 + below(below(3) == 0 ? MOST_NAMES : 6), reservations = 1 + below(below(3) == 0 ? MOST_RESERVATIONS : 6);
     sound_size = zatovola_room_size(names, reservations);
-    if (sound_size != 56 + 66 * names + 18 * reservations) fail("another size");
+    if (sound_size != HEAD + PLACE * names + BOOKING * reservations) fail("another size");
     if (zatovola_make(sound_room, sound_size, names, reservations) != 0) fail("no room made");
 }
 
@@ -136,7 +138,7 @@ static void fresh(void) {
 static size_t put_room(uint8_t *to) {
     size_t size = sound_size, kind = below(8);
     memcpy(to, sound_room, size);
-    if (kind == 0) for (uint64_t n = 1 + below(4); n > 0; n--) to[below(below(2) == 0 ? 56 : size)] = (uint8_t)chance();
+    if (kind == 0) for (uint64_t n = 1 + below(4); n > 0; n--) to[below(below(2) == 0 ? HEAD : size)] = (uint8_t)chance();
     if (kind == 1) to[below(size)] ^= (uint8_t)(1u << below(8));
     if (kind == 2) size = below(2) == 0 ? size - 1 : below(size);
     if (kind == 3 && below(8) == 0) for (size_t i = 0; i < size; i++) to[i] = (uint8_t)chance();

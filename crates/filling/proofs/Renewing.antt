@@ -6,7 +6,6 @@ use Prim.Native.Nat.{ℕ}
 use lib.ListN.{length}
 use Rattle.rules.specs.RoomAndSoundLedger.{Ledger, fenceOf, fresh}
 use Rattle.rules.specs.SnapshotsMigrationCertificates.{Snapshot, restored}
-use Rattle.rules.proofs.SnapshotSoundness.{fresh-sound}
 use Rattle.records.specs.Records.{sizesOf}
 use Rattle.records.specs.declared.Head.{Head}
 use Rattle.records.specs.declared.Sizes.{Sizes}
@@ -26,8 +25,7 @@ made-anew xs ys L room s e m makes =
     let known = room .sound in
     let sizes = e ∙ sizes-are xs L room in
     let makes : Makes (L .T) (L .R) xs m ys = subst (λ (s : Sizes). Makes (s .names) (s .reservations) xs m ys) sizes makes in
-    let done = makes .overwrites (fresh (L .T) (L .R)) (made-fresh (L .T) (L .R) (known .names-in-range) (known .reservations-in-range)) (room .size) in
-    record { size = done .size ∙ room .size; holds = done .holds; sound = fresh-sound (L .T) (L .R) (known .names-in-range) (known .reservations-in-range) }
+    makes .overwrites (fresh (L .T) (L .R)) (made-fresh (L .T) (L .R) (known .names-in-range) (known .reservations-in-range)) (room .size) .room
 
 -- a fresh ledger is the one ledger of its room
 pub empty-takes : (ys bs : List ℕ) (t r : ℕ) → IsRoom ys (fresh t r) → Takes t bs → OfRoom ys (λ L. (L ≡ fresh (L .T) (L .R)) × Takes (L .T) bs)

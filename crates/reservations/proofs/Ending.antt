@@ -7,17 +7,14 @@ use Prim.Native.Nat.{ℕ, suc, _+_, _*_, _≤_, _<_}
 use native.Mathlib.Omega.{arith}
 use lib.IntN.{ℤ}
 use lib.ListN.{length, getD, take, drop, List·getD-map}
-use Rattle.rules.specs.Lists.{All, sum}
 use Rattle.rules.specs.RoomAndSoundLedger.{Account, Seat as RulesSeat, Place as RulesPlace, Booking as RulesBooking, Ledger, withPlaces, withBookings, seatIn, hasAccount, holdsPlace, reservedFor, AddsUp}
 use Rattle.rules.specs.AnswerNumbers.{Reply, Refusal, replyOf}
 use Rattle.rules.specs.AccountRules.{Settlement, leave, end, AccountOperation, operate, onBooking, settle, booked, ended, seated, doneWith}
 use Rattle.rules.specs.Domain.{AccountOperationFits}
 use Rattle.rules.proofs.Tests.{true-false}
-use Rattle.rules.proofs.Lists.{all-map}
-use Rattle.rules.proofs.Names.{same-self}
 use Rattle.rules.proofs.Places.{seatIn-all, account-holds}
 use Rattle.rules.proofs.Bookings.{booked-id}
-use Rattle.rules.proofs.SoundByName.{AccountSound, by-name}
+use Rattle.rules.proofs.SoundByName.{AccountSound, part-of-sum, by-name}
 use Rattle.moves.specs.Moves.{accountOf, meaning, kept, keptSeat, SeatSound}
 use Rattle.moves.specs.declared.Seat.{Seat}
 use Rattle.records.specs.declared.Booking.{Booking}
@@ -41,15 +38,6 @@ use Rattle.reservations.specs.Steps.{noBooking, bookingAt, dueAt}
 use Rattle.reservations.specs.declared.Due.{Due}
 use Rattle.reservations.proofs.Fitting.{SettlementFits}
 use Rattle.reservations.proofs.Performing.{stays, becomes}
-
--- a booking is part of what is reserved for its airline
-part-of-sum : (bs : List RulesBooking) → All (λ b. b .amount ≤ reservedFor (b .name) bs) bs
-unfolding reservedFor sum
-part-of-sum [] = tt
-part-of-sum (x ∷ xs) = (
-  rw (same-self (x .name)) (omega arith),
-  all-map (λ b. b .amount ≤ reservedFor (b .name) xs) (λ b. b .amount ≤ reservedFor (b .name) (x ∷ xs)) (λ b l. omega arith) xs (part-of-sum xs),
-)
 
 kept-reserved : (amount total : ℕ) (c : Option Account) (l : ℕ) → hasAccount c ≡ true → AccountSound total c → amount ≤ total → amount ≤ kept c l .reserved
 kept-reserved amount total none l h s m = true-false h refl

@@ -6,3 +6,4 @@ pub mod Seating
 pub mod Settling
 pub mod InRoom
 pub mod SoundRoom
+pub mod LedgerBytes

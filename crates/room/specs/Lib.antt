@@ -1,3 +1,4 @@
 pub mod Contents
 pub mod Room
 pub mod Seats
+pub mod LedgerBytes

@@ -97,7 +97,7 @@ reserves total none h = tt
 reserves total (some c) h = h .2
 
 -- a booking is part of what is reserved for its airline
-part-of-sum : (bs : List Booking) → All (λ b. b .amount ≤ reservedFor (b .name) bs) bs
+pub part-of-sum : (bs : List Booking) → All (λ b. b .amount ≤ reservedFor (b .name) bs) bs
 unfolding reservedFor sum
 part-of-sum [] = tt
 part-of-sum (x ∷ xs) = (

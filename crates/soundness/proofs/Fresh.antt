@@ -1,5 +1,5 @@
 -- When a ledger is made, and that zeros with the sizes and the head stored over them are its room.
-use mathlib.Core.Path.{_≡_, sym, ap, ap₂, _∙_}
+use mathlib.Core.Path.{_≡_, sym, ap, ap₂, _∙_, subst}
 use mathlib.Core.Bool.{true, _&&_}
 use mathlib.Core.List.{List, []}
 use mathlib.Core.Option.{some}
@@ -8,8 +8,9 @@ use native.Mathlib.Omega.{arith}
 use borrow.Author.Tests.{leb-true, le-leb}
 use lib.Dec.{leb}
 use lib.ListN.{length, replicate, length-replicate}
-use Rattle.rules.specs.RoomAndSoundLedger.{Ledger, InRange, isInRange, fresh, made, mostNames, mostReservations}
+use Rattle.rules.specs.RoomAndSoundLedger.{Ledger, Sound, InRange, isInRange, fresh, made, mostNames, mostReservations}
 use Rattle.rules.proofs.Tests.{by-test, and-true, none-some}
+use Rattle.rules.proofs.SnapshotSoundness.{fresh-sound}
 use Rattle.records.specs.Layout.{ledgerHeadOffset, ledgerHeadSize, countsOffset, capacityOffset, pairSize, placeSize, bookingSize, headSize}
 use Rattle.records.specs.Rows.{put}
 use Rattle.records.specs.Records.{placeOf, placeBytes, bookingOf, bookingBytes, pairBytes, headBytes, SizesFit, HeadFits, places, bookings}
@@ -19,7 +20,7 @@ use Rattle.records.proofs.Records.{bytes-of-place, bytes-of-booking, pair-lengt
 use Rattle.records.proofs.Rows.{put-length}
 use Rattle.records.proofs.Room.{sizes-stored, head-stored}
 use Rattle.room.specs.Contents.{contents, contentsOf, baseOf, roomSize, emptyPlace, emptyBooking}
-use Rattle.room.specs.Room.{filled, contentsIn}
+use Rattle.room.specs.Room.{filled, contentsIn, IsRoom}
 use Rattle.soundness.proofs.Zeros.{zeros, row-zeros, zeros-empty}
 use Rattle.soundness.proofs.Parts.{empty-place, empty-booking, contents-with}
 
@@ -43,6 +44,13 @@ module _ (t r : ℕ) where
   unfolding made
   made-fresh h k = rw (is-in-range 1 mostNames t h, is-in-range 1 mostReservations r k)
 
+-- the ledger that is made is sound, so memory of its size and contents is its room
+pub made-room : (t r : ℕ) (L : Ledger) → made t r ≡ some L → (after : List ℕ) → length after ≡ roomSize t r → contentsOf after ≡ contentsIn (fresh t r) → IsRoom after L
+unfolding fresh
+made-room t r L e after size holds =
+    let (a, b, q) = made-some t r L e in
+    record { size = size ∙ ap (λ K. roomSize (K .T) (K .R)) q; holds = holds ∙ ap contentsIn q; sound = subst Sound q (fresh-sound t r a b) }
+
 -- ── the room of a fresh ledger ─────────────────────────────────────────────────────────────────
 
 abbrev pub freshSizes : (t r : ℕ) → Sizes
@@ -57,8 +65,8 @@ sizesPut s xs = put countsOffset pairSize (put capacityOffset pairSize xs (pairB
 sizes-put-length : (s : Sizes) (xs : List ℕ) → headSize ≤ length xs → length (sizesPut s xs) ≡ length xs
 sizes-put-length s xs h =
     let ys = put capacityOffset pairSize xs (pairBytes (s .names) (s .reservations)) in
-    let e : length ys ≡ length xs = put-length 0 16 xs (pairBytes (s .names) (s .reservations)) (omega arith) (pair-length (s .names) (s .reservations)) in
-    put-length 40 16 ys (pairBytes (s .used) (s .live)) (omega arith) (pair-length (s .used) (s .live)) ∙ e
+    let e : length ys ≡ length xs = put-length capacityOffset pairSize xs (pairBytes (s .names) (s .reservations)) (omega arith) (pair-length (s .names) (s .reservations)) in
+    put-length countsOffset pairSize ys (pairBytes (s .used) (s .live)) (omega arith) (pair-length (s .used) (s .live)) ∙ e
 
 filled-none : {A : Type 0} (n : ℕ) (x : A) → replicate n x ≡ filled n x []
 unfolding filled

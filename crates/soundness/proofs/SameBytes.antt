@@ -7,9 +7,8 @@ use mathlib.Core.Option.{some}
 use Prim.Native.Nat.{ℕ}
 use lib.ListN.{length}
 use Rattle.rules.specs.Lists.{All}
-use Rattle.rules.specs.RoomAndSoundLedger.{Ledger, IsByte, Sound, made, fresh}
+use Rattle.rules.specs.RoomAndSoundLedger.{Ledger, IsByte, made}
 use Rattle.rules.specs.AnswerNumbers.{Reply, Outcome}
-use Rattle.rules.proofs.SnapshotSoundness.{fresh-sound}
 use Rattle.rules.proofs.Tests.{by-bool}
 use Rattle.room.specs.Contents.{roomSize}
 use Rattle.room.specs.Room.{IsRoom, SoundRoom, Answers}
@@ -17,7 +16,6 @@ use Rattle.room.proofs.Decoding.{canonical}
 use Rattle.soundness.specs.Facts.{Decides}
 use Rattle.soundness.specs.declared.Made.{Made}
 use Rattle.soundness.specs.Making.{Makes}
-use Rattle.soundness.proofs.Fresh.{made-some}
 
 module _ (before : List ℕ) where
   -- the memory is the room of a sound ledger or of none, as `soundness::is_sound` answers of any memory
@@ -40,8 +38,4 @@ module _ (before : List ℕ) where
 -- A ledger that is made is a sound one, in its room.
 module _ (names reservations : ℕ) (L : Ledger) (is-made : made names reservations ≡ some L) (before : List ℕ) (size : length before ≡ roomSize names reservations) (r : Made) (after : List ℕ) where
   pub made-is-room : Makes names reservations before r after → IsRoom after L
-  unfolding fresh
-  made-is-room makes =
-      let (a, b, q) = made-some names reservations L is-made in
-      let becomes = makes .overwrites L is-made size in
-      record { size = becomes .size ∙ size ∙ ap (λ K. roomSize (K .T) (K .R)) q; holds = becomes .holds; sound = subst Sound q (fresh-sound names reservations a b) }
+  made-is-room makes = makes .overwrites L is-made size .room

@@ -6,22 +6,21 @@ use mathlib.Core.Option.{none, some}
 use Prim.Native.Nat.{ℕ}
 use lib.ListN.{length}
 use Rattle.rules.specs.RoomAndSoundLedger.{Ledger, made}
-use Rattle.room.specs.Contents.{contentsOf, roomSize}
-use Rattle.room.specs.Room.{contentsIn}
+use Rattle.room.specs.Contents.{roomSize}
+use Rattle.room.specs.Room.{IsRoom}
 use Rattle.soundness.specs.declared.Made.{Made}
 use Rattle.soundness.specs.declared.Made.the-variants.{Done, UnsoundLedger}
 
--- done: the memory is overwritten with this ledger
-pub record Overwritten (L : Ledger) (before : List ℕ) (r : Made) (after : List ℕ) : Type 0 where
+-- the memory is overwritten: it is the room of this ledger
+pub record Overwritten (L : Ledger) (r : Made) (after : List ℕ) : Type 0 where
   pub answer : r ≡ Done
-  pub size : length after ≡ length before
-  pub holds : contentsOf after ≡ contentsIn L
+  pub room : IsRoom after L
 
 pub record Untouched (before : List ℕ) (r : Made) (after : List ℕ) : Type 0 where
   pub answer : r ≡ UnsoundLedger
   pub same : after ≡ before
 
 pub record Makes (names reservations : ℕ) (before : List ℕ) (r : Made) (after : List ℕ) : Type 0 where
-  pub overwrites : (L : Ledger) → made names reservations ≡ some L → length before ≡ roomSize names reservations → Overwritten L before r after
+  pub overwrites : (L : Ledger) → made names reservations ≡ some L → length before ≡ roomSize names reservations → Overwritten L r after
   pub out-of-range : made names reservations ≡ none → Untouched before r after
   pub other-size : (length before ≡ roomSize names reservations → ⊥) → Untouched before r after

@@ -140,7 +140,7 @@ module _ (xs ys : List ℕ) (s : Sized xs) where
   pub counts-put : (used live : ℕ) → used < 2 ^ 64 → live < 2 ^ 64 → ys ≡ put countsOffset pairSize xs (pairBytes used live) → Becomes (onCounts used live) xs ys
   unfolding contentsOf
   counts-put used live f g =
-      leaves 40 16 (pairBytes used live) _ _ _ _ (omega (arith, s .size)) (pair-length used live)
+      leaves countsOffset pairSize (pairBytes used live) _ _ _ _ (omega (arith, s .size)) (pair-length used live)
       (counts-stored names (baseOf names) reservations xs (omega arith) (omega (arith, s .size)) used live f g)
 
   pub place-put : (i : ℕ) (p : Place) → i < contentsOf xs .sizes .names → PlaceFits p → ys ≡ put (placeStart i) placeSize xs (placeBytes p) → Becomes (withPlace i p) xs ys

@@ -9,10 +9,9 @@ use Rattle.records.specs.Layout.{ledgerHeadOffset, ledgerHeadSize}
 use Rattle.records.specs.Rows.{put}
 use Rattle.records.specs.Records.{headBytes}
 use Rattle.room.specs.Contents.{contentsOf}
-use Rattle.room.specs.Room.{contentsIn}
 use Rattle.soundness.specs.Facts.{SizesSound}
 use Rattle.soundness.proofs.Deciding.{refused, accepted}
-use Rattle.soundness.proofs.Fresh.{made-some, made-fresh, freshSizes, freshHead, sizesPut, fresh-room}
+use Rattle.soundness.proofs.Fresh.{made-some, made-fresh, made-room, freshSizes, freshHead, sizesPut, fresh-room}
 use Rattle.soundness.proofs.Zeros.{zeros}
 use Rattle.soundness.proofs.make.Statement.{statement}
 use Rattle.soundness.proofs.make.Tie as tie
@@ -51,8 +50,8 @@ returns-2 c =
     record {
       overwrites = λ L e size. record {
         answer = refl;
-        size = head .store-head .kept .0 ∙ sizes .store-sizes .kept .0 ∙ cleared .clear .kept .0;
-        holds = ap contentsOf written ∙ fresh-room _ _ _ size (sizes .store-sizes .ensures .1) (head .store-head .ensures .1) ∙ ap contentsIn (made-some _ _ L e .2);
+        room = made-room (a .names) (a .reservations) L e (head .store-head .last .0) (head .store-head .kept .0 ∙ sizes .store-sizes .kept .0 ∙ cleared .clear .kept .0 ∙ size)
+            (ap contentsOf written ∙ fresh-room _ _ _ size (sizes .store-sizes .ensures .1) (head .store-head .ensures .1));
       };
       out-of-range = λ e. none-some (sym e ∙ made-fresh _ _ (sized start .names) (sized start .reservations));
       other-size = λ n. absurd (n (sized start .size));
