@@ -1,4 +1,4 @@
-// Names: compared by their bytes, and kept by value.
+// Names: compared by their bytes, kept by value, and written with their length in front.
 ghost use Prim.Native.Nat.{_+_, _≤_};
 ghost use mathlib.Core.Path.{_≡_};
 ghost use lib.ListN.{length};
