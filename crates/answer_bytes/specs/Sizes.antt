@@ -1,5 +1,5 @@
 -- How many bytes an answer takes at most, by what it carries behind its number: words of eight bytes, a name with its length in front, a field's byte.
-use Prim.Native.Nat.{ℕ, _+_}
+use Prim.Native.Nat.{ℕ, _+_, _*_}
 use Rattle.rules.specs.RoomAndSoundLedger.{longestName}
 
 abbrev pub oneWord : ℕ
@@ -20,6 +20,6 @@ namedWord = named + 8
 abbrev pub namedField : ℕ
 namedField = named + 1 + 8
 
--- a certificate is the longest answer that hands out no snapshot: three words, a yes or no, both totals, a yes or no, and since
+-- a certificate is the longest answer that hands out no snapshot: its number, three words, a yes or no, both totals, a yes or no, and since
 abbrev pub longestOtherAnswer : ℕ
-longestOtherAnswer = threeWords + 1 + 8 + 8 + 1 + 8
+longestOtherAnswer = 1 + 3 * 8 + 1 + 2 * 8 + 1 + 8

@@ -2,9 +2,9 @@
 use crate::calls;
 use crate::lent;
 use crate::lent::Lent;
-use crate::shown;
-use crate::text;
-use crate::text::Numbers;
+use case_text::shown;
+use case_text::text;
+use case_text::text::Numbers;
 use answer_bytes::LONGEST_OTHER_ANSWER;
 use any_memory_accounts::Versioned;
 use lines::Progress;

@@ -1,6 +1,6 @@
 // What is lent to the calls, and the lines that set it, which write nothing.
-use crate::text;
-use crate::text::Numbers;
+use case_text::text;
+use case_text::text::Numbers;
 
 const LARGEST_BYTE: u64 = 255;
 

@@ -32,8 +32,6 @@
 mod calls;
 mod case;
 mod lent;
-mod shown;
-mod text;
 
 use records::LARGEST_ROOM;
 
@@ -42,6 +40,8 @@ const OUTPUT_SIZE: usize = 30000;
 
 // Nothing that the lines supply is longer than they are.
 const INPUT_SIZE: usize = 65536;
+
+use case_text::shown;
 
 fn main() {
     let mut input = [0u8; INPUT_SIZE];

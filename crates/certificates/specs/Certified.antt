@@ -28,15 +28,8 @@ use Rattle.certificates.specs.declared.Summarized.the-variants as summar
 abbrev pub certificateReply : Certificate → Reply
 certificateReply c =
     done
-    (Version (c .version)
-    ∷ Count (c .rows)
-    ∷ Count (c .active)
-    ∷ YesOrNo (c .balanced)
-    ∷ Amount (c .«initial_total» .0)
-    ∷ Amount (c .«committed_total» .0)
-    ∷ YesOrNo (c .representable)
-    ∷ Amount (c .since .0)
-    ∷ [])
+    (Version (c .version) ∷ Count (c .rows) ∷ Count (c .active) ∷ YesOrNo (c .balanced)
+    ∷ Amount (c .«initial_total» .0) ∷ Amount (c .«committed_total» .0) ∷ YesOrNo (c .representable) ∷ Amount (c .since .0) ∷ [])
 
 abbrev pub certifiedReply : Certified → Reply
 certifiedReply (certified.Certificate c) = certificateReply c

@@ -2,9 +2,11 @@
 -- rules' restored ledger, field by field.
 use mathlib.Core.Path.{_≡_, refl, sym, _∙_, ap, subst}
 use mathlib.Core.List.{List}
+use mathlib.Core.Option.{some}
 use Prim.Native.Nat.{ℕ}
 use lib.ListN.{length}
-use Rattle.rules.specs.RoomAndSoundLedger.{Ledger, fenceOf, fresh}
+use Rattle.rules.specs.RoomAndSoundLedger.{Ledger, fenceOf, fresh, made}
+use Rattle.rules.specs.AnswerNumbers.{Reply}
 use Rattle.rules.specs.SnapshotsMigrationCertificates.{Snapshot, restored}
 use Rattle.records.specs.Records.{sizesOf}
 use Rattle.records.specs.declared.Head.{Head}
@@ -13,19 +15,19 @@ use Rattle.room.specs.Contents.{contentsOf, withHead}
 use Rattle.room.specs.Room.{contentsIn, IsRoom, OfRoom}
 use Rattle.room.proofs.Decoding.{one-ledger}
 use Rattle.room.proofs.SoundRoom.{sizes-are}
-use Rattle.soundness.specs.Making.{Makes}
-use Rattle.soundness.specs.declared.Made.{Made}
-use Rattle.soundness.proofs.Fresh.{made-fresh}
+use Rattle.soundness.specs.Making.{madeIn, Makes}
+use Rattle.soundness.proofs.Fresh.{made-here}
 use Rattle.filling.specs.Filling.{Takes, Holds, PutsRows}
 
 -- made at the sizes that it has, the room is that of a fresh ledger
-pub made-anew : (xs ys : List ℕ) (L : Ledger) → IsRoom xs L → (s : Sizes) → s ≡ sizesOf xs → (m : Made) → Makes (s .names) (s .reservations) xs m ys → IsRoom ys (fresh (L .T) (L .R))
-unfolding fresh
-made-anew xs ys L room s e m makes =
+pub made-anew : (xs ys : List ℕ) (L : Ledger) → IsRoom xs L → (s : Sizes) → s ≡ sizesOf xs → (r : Reply) → Makes (madeIn xs (made (s .names) (s .reservations))) xs r ys → IsRoom ys (fresh (L .T) (L .R))
+made-anew xs ys L room s e r makes =
     let known = room .sound in
     let sizes = e ∙ sizes-are xs L room in
-    let makes : Makes (L .T) (L .R) xs m ys = subst (λ (s : Sizes). Makes (s .names) (s .reservations) xs m ys) sizes makes in
-    makes .overwrites (fresh (L .T) (L .R)) (made-fresh (L .T) (L .R) (known .names-in-range) (known .reservations-in-range)) (room .size) .room
+    let makes : Makes (madeIn xs (made (L .T) (L .R))) xs r ys = subst (λ (s : Sizes). Makes (madeIn xs (made (s .names) (s .reservations))) xs r ys) sizes makes in
+    let made : Makes (some (fresh (L .T) (L .R))) xs r ys =
+    subst (λ o. Makes o xs r ys) (made-here (L .T) (L .R) xs (known .names-in-range) (known .reservations-in-range) (room .size)) makes in
+    made .1
 
 -- a fresh ledger is the one ledger of its room
 pub empty-takes : (ys bs : List ℕ) (t r : ℕ) → IsRoom ys (fresh t r) → Takes t bs → OfRoom ys (λ L. (L ≡ fresh (L .T) (L .R)) × Takes (L .T) bs)

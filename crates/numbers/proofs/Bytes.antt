@@ -1,10 +1,10 @@
 -- Lists of bytes, and lists spelt out by their elements.
 use mathlib.Core.Path.{_≡_, sym}
-use mathlib.Core.List.{List, [], _∷_, _++_}
+use mathlib.Core.List.{List, [], _∷_, _++_, flatMap}
 use Prim.Native.Nat.{ℕ, zero, suc, _+_, _<_}
 use native.Mathlib.Omega.{arith}
 use native.Mathlib.Numerals.{add-one}
-use lib.ListN.{length, getD, take, drop, drop-of-length-le}
+use lib.ListN.{length, getD, take, drop, replicate, drop-of-length-le}
 use lib.Seq.{drop-cons}
 use mir.Syntax.{w8}
 use mir.Val.{Fits}
@@ -30,6 +30,16 @@ module _ {A : Type 0} (P : A → Type 0) where
   all-drop zero xs h = h
   all-drop (suc n) [] h = tt
   all-drop (suc n) (x ∷ xs) (h, k) = all-drop n xs k
+
+  pub all-repeat : (x : A) → P x → (n : ℕ) → All P (replicate n x)
+  all-repeat x h zero = tt
+  all-repeat x h (suc n) = (h, all-repeat x h n)
+
+  -- each element's list one after the other
+  pub all-flat : {B : Type 0} (Q : B → Type 0) (f : B → List A) → ((y : B) → Q y → All P (f y)) → (ys : List B) → All Q ys → All P (flatMap f ys)
+  unfolding flatMap
+  all-flat Q f g [] h = tt
+  all-flat Q f g (y ∷ ys) (h, k) = all-join (f y) (flatMap f ys) (g y h) (all-flat Q f g ys k)
 
 -- what the check knows of a slice of bytes
 pub all-bytes : (xs : List ℕ) → ((i : ℕ) → Fits w8 (getD xs i 0)) → All IsByte xs

@@ -1,12 +1,13 @@
 -- Laws of rows and puts, over any width: a row that is put is that row, and whatever lies apart from it is as it was.
-use mathlib.Core.Path.{_≡_, refl, sym, ap, _∙_}
+use mathlib.Core.Path.{_≡_, refl, sym, ap, ap₂, _∙_}
 use mathlib.Core.Logic.{_⊎_, inl, inr}
 use mathlib.Core.List.{List, [], _∷_, _++_, map, append-assoc, append-nil}
 use Prim.Native.Nat.{ℕ, zero, suc, _+_, _*_, _-_, _≤_, _<_}
 use native.Mathlib.Nat.{mul-zero, mul-suc, mul-le-mul-left, add-assoc, add-comm, zero-add, suc-add, not-suc-le-zero, le-of-suc-le-suc}
 use native.Mathlib.Omega.{arith}
-use lib.ListN.{length, take, drop, getD, set, length-append, length-drop, drop-of-length-le, length-map, List·getD-map}
+use lib.ListN.{length, take, drop, getD, set, replicate, length-append, length-drop, drop-of-length-le, length-map, replicate-append-replicate, List·getD-map}
 use lib.Seq.{take-at, drop-at, take-append-le, drop-drop, take-add, take-take, take-nil, length-take-le}
+use Rattle.rules.specs.Lists.{All}
 use Rattle.records.specs.Rows.{row, put, rows, table}
 
 -- ── one row ────────────────────────────────────────────────────────────────────────────────────
@@ -189,3 +190,39 @@ module _ {A : Type 0} (read : List ℕ → A) (k : ℕ) where
     table-drop n m h =
         let e : m ≡ n + (m - n) = omega arith in
         ap (λ t. drop n (table read k b t xs)) e ∙ last-rows n (m - n) (drop b xs) ∙ ap (λ ys. map read (rows k (m - n) ys)) (drop-drop (k * n) b xs)
+
+-- ── records one after the other ────────────────────────────────────────────────────────────────
+
+pub joined-append : (ws vs : List (List ℕ)) → joined (ws ++ vs) ≡ joined ws ++ joined vs
+joined-append [] vs = refl
+joined-append (w ∷ ws) vs = rw (joined-append ws vs, append-assoc)
+
+module _ {A : Type 0} (read : List ℕ → A) (write : A → List ℕ) (k : ℕ) where
+  -- a record whose bytes are of the width and read as the record
+  abbrev pub Readable : A → Type 0
+  Readable q = (length (write q) ≡ k) × (read (write q) ≡ q)
+
+  pub rows-joined : (qs : List A) (rest : List ℕ) → All Readable qs → map read (rows k (length qs) (joined (map write qs) ++ rest)) ≡ qs
+  rows-joined [] rest h = refl
+  rows-joined (q ∷ qs) rest ((l, e), h) =
+      let later = joined (map write qs) ++ rest in
+      ap (λ ys. map read (rows k (suc (length qs)) ys)) (append-assoc (write q) (joined (map write qs)) rest)
+      ∙ ap₂ (λ w ws. read w ∷ map read (rows k (length qs) ws)) (take-at (write q) later k l) (drop-at (write q) later k l)
+      ∙ ap₂ _∷_ e (rows-joined qs rest h)
+
+  pub table-joined : (front rest : List ℕ) (qs : List A) (b n : ℕ) → length front ≡ b → length qs ≡ n → All Readable qs → table read k b n (front ++ (joined (map write qs) ++ rest)) ≡ qs
+  table-joined front rest qs b n l m h =
+      ap (λ ys. map read (rows k n ys)) (drop-at front (joined (map write qs) ++ rest) b l)
+      ∙ ap (λ t. map read (rows k t (joined (map write qs) ++ rest))) (sym m)
+      ∙ rows-joined qs rest h
+
+  pub joined-length : (qs : List A) → All Readable qs → length (joined (map write qs)) ≡ k * length qs
+  joined-length [] h = rw mul-zero
+  joined-length (q ∷ qs) ((l, e), h) = length-append (write q) (joined (map write qs)) ∙ ap₂ _+_ l (joined-length qs h) ∙ add-comm k (k * length qs) ∙ sym (mul-suc k (length qs))
+
+-- records of zeros
+module _ {A : Type 0} (write : A → List ℕ) (k : ℕ) (empty : A) (zero-row : write empty ≡ replicate k 0) where
+  pub zeros-joined : (n : ℕ) → joined (map write (replicate n empty)) ≡ replicate (k * n) 0
+  zeros-joined zero = rw mul-zero
+  zeros-joined (suc n) =
+      ap₂ _++_ zero-row (zeros-joined n) ∙ replicate-append-replicate k (k * n) 0 ∙ ap (λ m. replicate m 0) (sym (mul-suc k n ∙ add-comm (k * n) k))

@@ -5,17 +5,15 @@ use mathlib.Core.Logic.{_⊎_, inl, inr, _≢_}
 use mathlib.Core.List.{List, [], _∷_, _++_, map, flatMap, append-assoc, append-nil, map-append}
 use mathlib.Core.Option.{Option, none, some}
 use Prim.Native.Nat.{ℕ, zero, suc, _+_, _-_, _*_, _/_, _^_, _≤_, _<_}
-use native.Mathlib.Nat.{mul-zero, mul-suc, add-comm}
 use native.Mathlib.Omega.{arith}
 use lib.ListN.{length, getD, take, drop, replicate, length-append, length-replicate, replicate-append-replicate, length-map}
 use borrow.Author.Tests.{eqb-true}
-use lib.Seq.{take-at, drop-at}
 use Rattle.rules.specs.Lists.{All}
 use Rattle.rules.specs.RoomAndSoundLedger.{M, longestName, IsByte, hasTag, fenceOf, IsName, Account, Place as RulesPlace, Booking as RulesBooking, Ledger, seatIn, hasAccount, reservedFor, AddsUp, Sound}
 use Rattle.rules.proofs.Tests.{by-option, true-false}
 use Rattle.rules.proofs.Lists.{all-map, all-both}
 use Rattle.rules.proofs.Keys.{all-images}
-use Rattle.numbers.proofs.Bytes.{all-join}
+use Rattle.numbers.proofs.Bytes.{all-join, all-repeat, all-flat}
 use Rattle.numbers.proofs.LittleEndian.{little-fit}
 use Rattle.rules.proofs.Places.{account-holds}
 use Rattle.rules.proofs.SoundByName.{AccountSound, part-of-sum, by-name}
@@ -27,9 +25,9 @@ use Rattle.records.specs.declared.Place.{Place}
 use Rattle.records.specs.declared.Booking.{Booking}
 use Rattle.records.specs.declared.Head.{Head}
 use Rattle.records.specs.declared.Sizes.{Sizes}
-use Rattle.records.specs.Rows.{rows, table, fieldBytes}
+use Rattle.records.specs.Rows.{fieldBytes}
 use Rattle.records.specs.Records.{placeOf, placeBytes, PlaceFits, bookingOf, bookingBytes, BookingFits, headOf, sizesOf, places as placesOf, bookings as bookingsOf}
-use Rattle.records.proofs.Rows.{joined}
+use Rattle.records.proofs.Rows.{joined, joined-append, Readable, table-joined, joined-length, zeros-joined}
 use Rattle.records.proofs.Fields.{fields, fields-length, fields-read}
 use Rattle.records.proofs.Records.{place-length, place-of-bytes, booking-length, booking-of-bytes}
 use Rattle.room.specs.Contents.{contents, contentsOf, baseOf, roomSize, emptyPlace, emptyBooking}
@@ -40,48 +38,15 @@ use Rattle.room.proofs.Numbers.{number-below}
 use Rattle.room.proofs.Seating.{kept-limit, kept-sound, Small, seat-small}
 use Rattle.room.specs.LedgerBytes.{words, padded, bytesOfSeat, bytesOfPlace, bytesOfBooking, ledgerBytes}
 
--- ── records one after the other ────────────────────────────────────────────────────────────────
+-- ── entries in use, and zeros for those that are not ──────────────────────────────────────────
 
-joined-append : (ws vs : List (List ℕ)) → joined (ws ++ vs) ≡ joined ws ++ joined vs
-joined-append [] vs = refl
-joined-append (w ∷ ws) vs = rw (joined-append ws vs, append-assoc)
-
-module _ {A : Type 0} (read : List ℕ → A) (write : A → List ℕ) (k : ℕ) where
-  -- a record whose bytes are of the width and read as the record
-  abbrev Readable : A → Type 0
-  Readable q = (length (write q) ≡ k) × (read (write q) ≡ q)
-
-  rows-joined : (qs : List A) (rest : List ℕ) → All Readable qs → map read (rows k (length qs) (joined (map write qs) ++ rest)) ≡ qs
-  rows-joined [] rest h = refl
-  rows-joined (q ∷ qs) rest ((l, e), h) =
-      let later = joined (map write qs) ++ rest in
-      ap (λ ys. map read (rows k (suc (length qs)) ys)) (append-assoc (write q) (joined (map write qs)) rest)
-      ∙ ap₂ (λ w ws. read w ∷ map read (rows k (length qs) ws)) (take-at (write q) later k l) (drop-at (write q) later k l)
-      ∙ ap₂ _∷_ e (rows-joined qs rest h)
-
-  table-joined : (front rest : List ℕ) (qs : List A) (b n : ℕ) → length front ≡ b → length qs ≡ n → All Readable qs → table read k b n (front ++ (joined (map write qs) ++ rest)) ≡ qs
-  table-joined front rest qs b n l m h =
-      ap (λ ys. map read (rows k n ys)) (drop-at front (joined (map write qs) ++ rest) b l)
-      ∙ ap (λ t. map read (rows k t (joined (map write qs) ++ rest))) (sym m)
-      ∙ rows-joined qs rest h
-
-  joined-length : (qs : List A) → All Readable qs → length (joined (map write qs)) ≡ k * length qs
-  joined-length [] h = rw mul-zero
-  joined-length (q ∷ qs) ((l, e), h) = length-append (write q) (joined (map write qs)) ∙ ap₂ _+_ l (joined-length qs h) ∙ add-comm k (k * length qs) ∙ sym (mul-suc k (length qs))
-
-  -- entries in use, and zeros for those that are not
-  module _ (empty : A) (zero-row : write empty ≡ replicate k 0) where
-    zeros-joined : (n : ℕ) → joined (map write (replicate n empty)) ≡ replicate (k * n) 0
-    zeros-joined zero = rw mul-zero
-    zeros-joined (suc n) =
-        ap₂ _++_ zero-row (zeros-joined n) ∙ replicate-append-replicate k (k * n) 0 ∙ ap (λ m. replicate m 0) (sym (mul-suc k n ∙ add-comm (k * n) k))
-
-    filled-joined : (n : ℕ) (qs : List A) → joined (map write (filled n empty qs)) ≡ joined (map write qs) ++ replicate (k * (n - length qs)) 0
-    unfolding filled
-    filled-joined n qs =
-        ap joined (map-append write qs (replicate (n - length qs) empty))
-        ∙ joined-append (map write qs) (map write (replicate (n - length qs) empty))
-        ∙ ap (λ r. joined (map write qs) ++ r) (zeros-joined (n - length qs))
+filled-joined : {A : Type 0} (write : A → List ℕ) (k : ℕ) (empty : A) → write empty ≡ replicate k 0 → (n : ℕ) (qs : List A)
+    → joined (map write (filled n empty qs)) ≡ joined (map write qs) ++ replicate (k * (n - length qs)) 0
+unfolding filled
+filled-joined write k empty zero-row n qs =
+    ap joined (map-append write qs (replicate (n - length qs) empty))
+    ∙ joined-append (map write qs) (map write (replicate (n - length qs) empty))
+    ∙ ap (λ r. joined (map write qs) ++ r) (zeros-joined write k empty zero-row (n - length qs))
 
 -- ── a place and a booking ──────────────────────────────────────────────────────────────────────
 
@@ -128,7 +93,7 @@ module _ {A B : Type 0} (k : ℕ) (write : A → List ℕ) (record-of : B → A)
       ∙ ap (λ m. joined (map write (map record-of xs)) ++ replicate (k * n - m) 0) l
       ∙ ap (λ m. joined (map write (map record-of xs)) ++ replicate m 0) e
       ∙ ap (λ m. joined (map write (map record-of xs)) ++ replicate (k * (n - m)) 0) (sym (length-map xs record-of))
-      ∙ sym (filled-joined read write k empty zero-row n (map record-of xs))
+      ∙ sym (filled-joined write k empty zero-row n (map record-of xs))
 
 -- ── what a sound ledger keeps fits its records ─────────────────────────────────────────────────
 
@@ -182,11 +147,7 @@ readable-booking b f = (booking-length b, booking-of-bytes b f)
 
 all-filled : {A : Type 0} (P : A → Type 0) (n : ℕ) (empty : A) (xs : List A) → All P xs → P empty → All P (filled n empty xs)
 unfolding filled
-all-filled P n empty xs h e = all-join P xs (replicate (n - length xs) empty) h (all-repeat (n - length xs))
-  where
-    all-repeat : (m : ℕ) → All P (replicate m empty)
-    all-repeat zero = tt
-    all-repeat (suc m) = (e, all-repeat m)
+all-filled P n empty xs h e = all-join P xs (replicate (n - length xs) empty) h (all-repeat P empty e (n - length xs))
 
 -- ── the room of a sound ledger ─────────────────────────────────────────────────────────────────
 
@@ -293,29 +254,20 @@ module _ (L : Ledger) (s : Sound L) where
       ∙ ap₂ (contents (sizesIn L) (headIn L)) known live
 
   -- the bytes of a sound ledger are its room
-  is-its-room : IsRoom (ledgerBytes L) L
+  pub is-its-room : IsRoom (ledgerBytes L) L
   is-its-room = record { size = ap length bytes-are ∙ size-is; holds = ap contentsOf bytes-are ∙ contents-are; sound = s }
 
 -- ── its bytes are bytes ────────────────────────────────────────────────────────────────────────
-
-all-zeros : (n : ℕ) → All IsByte (replicate n 0)
-all-zeros zero = tt
-all-zeros (suc n) = (omega arith, all-zeros n)
-
-all-flat : {A : Type 0} (P : A → Type 0) (f : A → List ℕ) → ((x : A) → P x → All IsByte (f x)) → (xs : List A) → All P xs → All IsByte (flatMap f xs)
-unfolding flatMap
-all-flat P f g [] h = tt
-all-flat P f g (x ∷ xs) (h, k) = all-join IsByte (f x) (flatMap f xs) (g x h) (all-flat P f g xs k)
 
 all-true : {A : Type 0} (xs : List A) → All (λ _. Unit {0}) xs
 all-true [] = tt
 all-true (x ∷ xs) = (tt, all-true xs)
 
 words-bytes : (ns : List ℕ) → All IsByte (words ns)
-words-bytes ns = all-flat (λ _. Unit {0}) (littleBytes 8) (λ n _. little-fit 8 n) ns (all-true ns)
+words-bytes ns = all-flat IsByte (λ _. Unit {0}) (littleBytes 8) (λ n _. little-fit 8 n) ns (all-true ns)
 
 padded-bytes : (n : ℕ) (bs : List ℕ) → All IsByte bs → All IsByte (padded n bs)
-padded-bytes n bs h = all-join IsByte bs (replicate (n - length bs) 0) h (all-zeros (n - length bs))
+padded-bytes n bs h = all-join IsByte bs (replicate (n - length bs) 0) h (all-repeat IsByte 0 (omega arith) (n - length bs))
 
 seat-bytes : (c : Option Account) (l : ℕ) → All IsByte (bytesOfSeat c l)
 seat-bytes none l = all-join IsByte (words (0 ∷ 0 ∷ 0 ∷ 0 ∷ l ∷ [])) (littleBytes 1 0) (words-bytes _) (little-fit 1 0)
@@ -338,8 +290,8 @@ ledger-is-bytes L s =
     let bookings : List ℕ = flatMap (bytesOfBooking (L .places)) (L .bookings) in
     all-join IsByte (head ++ padded (placeSize * L .T) places) (padded (bookingSize * L .R) bookings)
     (all-join IsByte head (padded (placeSize * L .T) places) (words-bytes (headNumbersOf L))
-    (padded-bytes (placeSize * L .T) places (all-flat (λ p. IsName (p .name)) bytesOfPlace place-is-bytes (L .places) (s .are-names))))
-    (padded-bytes (bookingSize * L .R) bookings (all-flat (λ b. Unit {0}) (bytesOfBooking (L .places)) (λ b h. booking-is-bytes (L .places) b) (L .bookings) (all-true (L .bookings))))
+    (padded-bytes (placeSize * L .T) places (all-flat IsByte (λ p. IsName (p .name)) bytesOfPlace place-is-bytes (L .places) (s .are-names))))
+    (padded-bytes (bookingSize * L .R) bookings (all-flat IsByte (λ b. Unit {0}) (bytesOfBooking (L .places)) (λ b h. booking-is-bytes (L .places) b) (L .bookings) (all-true (L .bookings))))
 
 -- ── what a room is ─────────────────────────────────────────────────────────────────────────────
 

@@ -1,15 +1,16 @@
 -- Laws of the places: what a seat written, or freed, means to every name's seat, to the order, the count and the committed total. By induction
 -- along the places, and by the order of the written name and the first.
 use mathlib.Core.Path.{_≡_, refl, sym, _∙_, ap, subst}
-use mathlib.Core.Bool.{Bool, true, false, not, cond, _||_, false≢true}
+use mathlib.Core.Bool.{Bool, true, false, not, cond, _&&_, _||_, false≢true}
 use mathlib.Core.List.{List, [], _∷_}
 use mathlib.Core.Option.{Option, none, some}
+use lib.Dec.{eqb}
 use Prim.Native.Nat.{ℕ, suc, _+_, Ordering·lt}
 use native.Mathlib.Omega.{arith}
 use borrow.Author.Tests.{eqb-true}
 use lib.ListN.{length}
 use Rattle.rules.specs.Lists.{first, any, keep, sum, All, Pairwise}
-use Rattle.rules.specs.RoomAndSoundLedger.{Name, order, same, Account, Seat, seat, Place, place, hasNothing, isVacant, isAt, seatOf, holdsPlace, seatIn, hasAccount, committedOf, committedAt, committedTotal, Before}
+use Rattle.rules.specs.RoomAndSoundLedger.{Name, order, same, Account, Seat, seat, Place, place, isVacant, isAt, seatOf, holdsPlace, seatIn, hasAccount, committedOf, committedAt, committedTotal, Before}
 use Rattle.rules.specs.AccountRules.{inserted, put, freed, seated}
 use Rattle.rules.proofs.Tests.{by-test, by-bool, by-option, by-order, true-false}
 use Rattle.rules.proofs.Lists.{first-all, first-none, first-any, any-none, first-keep, first-keep-none, all-map}
@@ -37,7 +38,7 @@ not-at b a p n e = rw (other a (p .name) (λ q. same-false b a n (same-true b (p
 vacant-seat : (s : Seat) → isVacant s ≡ true → s ≡ seat none 0
 vacant-seat s e = go (s .account) (s .limit) refl refl e
   where
-    go : (c : Option Account) (l : ℕ) → s .account ≡ c → s .limit ≡ l → hasNothing c l ≡ true → s ≡ seat none 0
+    go : (c : Option Account) (l : ℕ) → s .account ≡ c → s .limit ≡ l → not (hasAccount c) && eqb l 0 ≡ true → s ≡ seat none 0
     go none l p q t = let r : l ≡ 0 = eqb-true l 0 t in λ i. record { account = p i; limit = (q ∙ r) i }
     go (some c) l p q t = absurd (false≢true t)
 

@@ -2,7 +2,7 @@
 -- (`rule-sound`), and one for each kind of move, name by name.
 use mathlib.Core.Path.{_≡_, refl, sym, _∙_, ap, subst}
 use mathlib.Core.Logic.{_⊎_, inl, inr, _≢_}
-use mathlib.Core.Bool.{Bool, true, false, cond, _&&_, _||_}
+use mathlib.Core.Bool.{Bool, true, false, not, cond, _&&_, _||_}
 use mathlib.Core.List.{List, [], _∷_, _++_}
 use mathlib.Core.Option.{Option, none, some}
 use Prim.Native.Nat.{ℕ, zero, suc, _+_, _-_, _≤_, _<_}
@@ -13,7 +13,7 @@ use lib.IntN.{ℤ, pos, negsuc, _-ℤ_}
 use lib.Signed.{ltZ}
 use lib.ListN.{length, length-append}
 use Rattle.rules.specs.Lists.{first, All}
-use Rattle.rules.specs.RoomAndSoundLedger.{M, longestName, Name, IsName, same, Account, Seat, seat, Place, hasNothing, isVacant, Booking, Ledger, isAt, seatOf, holdsPlace, seatIn, hasAccount, share, reservedFor, committedOf, committedTotal, Sound}
+use Rattle.rules.specs.RoomAndSoundLedger.{M, longestName, Name, IsName, same, Account, Seat, seat, Place, isVacant, Booking, Ledger, isAt, seatOf, holdsPlace, seatIn, hasAccount, share, reservedFor, committedOf, committedTotal, Sound}
 use Rattle.rules.specs.AnswerNumbers.{Outcome}
 use Rattle.rules.specs.AccountRules.{Move, refuse, tell, write, lose, book, Settlement, leave, end, ensureRule, topUpRule, limitRule, reserveRule, commitRule, releaseRule, readRule, readReservedRule, put, freed, seated, hasRoom, booked, ended, perform, settle, AccountOperation, ensure, topUp, limit, reserve, commit, release, readRemaining, readInitial, readCommitted, readReserved, isTooLong, named, onName, onBooking, nextIdIsM, operate, Rule, ruleOf, forReservation, apply, forName}
 use Rattle.rules.specs.Domain.{IsAmount, IsBytes, AccountOperationFits}
@@ -114,7 +114,7 @@ rule-sound (readReserved a) bytes = (bytes, λ last total l small c h. read-rese
 
 -- ── a seat written ─────────────────────────────────────────────────────────────────────────────
 
-vacant-committed : (c : Option Account) (l : ℕ) → hasNothing c l ≡ true → committedOf c ≡ 0
+vacant-committed : (c : Option Account) (l : ℕ) → not (hasAccount c) && eqb l 0 ≡ true → committedOf c ≡ 0
 vacant-committed none l e = refl
 vacant-committed (some c) l e = absurd (let z : _≡_ {A = ℕ} 0 1 = cc in omega arith)
 

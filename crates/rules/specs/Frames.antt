@@ -1,5 +1,5 @@
 -- Document 01, section "Frames".
-use mathlib.Core.Bool.{Bool, true, false, cond, _&&_}
+use mathlib.Core.Bool.{cond, _&&_}
 use mathlib.Core.List.{List, [], _∷_, _++_, flatMap}
 use mathlib.Core.Option.{Option, none, some}
 use Prim.Native.Nat.{ℕ, _+_, _-_, _*_, _/_, _%_}
@@ -100,10 +100,6 @@ answer l (judge s) = answered (status s) l
 
 -- ── a reply to its answer line ─────────────────────────────────────────────────────────────────
 
-abbrev pub flag : Bool → ℕ
-flag false = 0
-flag true = 1
-
 -- a name with its length byte, flags and fields in one byte, numbers in eight
 abbrev pub valueBytes : Value → List ℕ
 valueBytes (Amount z) = amountBytes z
@@ -112,7 +108,7 @@ valueBytes (Version v) = bytesOf 8 v
 valueBytes (Fence f) = bytesOf 8 f
 valueBytes (Count n) = bytesOf 8 n
 valueBytes (Field f) = bytesOf 1 f
-valueBytes (YesOrNo b) = bytesOf 1 (flag b)
+valueBytes (YesOrNo b) = bytesOf 1 (cond b 1 0)
 valueBytes (TheName a) = nameBytes a
 valueBytes (SnapshotBytes bs) = bs
 

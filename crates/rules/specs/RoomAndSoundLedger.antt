@@ -1,7 +1,7 @@
 -- Document 01, section "Room and the sound ledger".
 use mathlib.Core.Path.{_≡_}
 use mathlib.Core.Logic.{_⊎_, _≢_}
-use mathlib.Core.Bool.{Bool, true, false, cond, _&&_}
+use mathlib.Core.Bool.{Bool, true, false, not, cond, _&&_}
 use mathlib.Core.List.{List, [], _∷_}
 use mathlib.Core.Option.{Option, none, some}
 use Prim.Native.Nat.{ℕ, _+_, _-_, _/_, _%_, _^_, _≤_, _<_, compare, Ordering, Ordering·lt, Ordering·eq, Ordering·gt}
@@ -68,6 +68,13 @@ pub record Seat : Type 0 where
 abbrev pub seat : Option Account → ℕ → Seat
 seat c l = record { account = c; limit = l }
 
+abbrev pub hasAccount : Option Account → Bool
+hasAccount none = false
+hasAccount (some c) = true
+
+abbrev pub isVacant : Seat → Bool
+isVacant s = not (hasAccount (s .account)) && eqb (s .limit) 0
+
 -- A ledger lists the names that have something; one that has nothing any more gives up its place
 pub record Place : Type 0 where
   pub name : Name
@@ -75,13 +82,6 @@ pub record Place : Type 0 where
 
 abbrev pub place : Name → Seat → Place
 place a s = record { name = a; seat = s }
-
-abbrev pub hasNothing : Option Account → ℕ → Bool
-hasNothing none l = eqb l 0
-hasNothing (some c) l = false
-
-abbrev pub isVacant : Seat → Bool
-isVacant s = hasNothing (s .account) (s .limit)
 
 -- a live reservation
 pub record Booking : Type 0 where
@@ -130,10 +130,6 @@ holdsPlace a = any (isAt a)
 -- the seat of a name; a name that holds no place has nothing
 unfoldable pub seatIn : Name → List Place → Seat
 seatIn a ps = seatOf (first (isAt a) ps)
-
-abbrev pub hasAccount : Option Account → Bool
-hasAccount none = false
-hasAccount (some c) = true
 
 -- what a booking reserves for a name
 abbrev pub share : Name → Booking → ℕ

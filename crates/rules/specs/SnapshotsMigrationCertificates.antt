@@ -108,11 +108,8 @@ unfoldable pub readRows : (count : ℕ) → Reader (List Row)
 readRows zero = reads []
 readRows (suc count) = do r ← readRow; rs ← readRows count; reads (r ∷ rs)
 
-abbrev pub unlessTooMany : ℕ → Reader ℕ
-unlessTooMany count bs = cond (ltb mostRows count) none (reads count bs)
-
 unfoldable pub readCount : Reader ℕ
-readCount = do count ← readNumber 2; unlessTooMany count
+readCount = do count ← readNumber 2; λ bs. cond (ltb mostRows count) none (reads count bs)
 
 unfoldable pub readSnapshot : Reader Snapshot
 readSnapshot = do
@@ -358,15 +355,9 @@ unfoldable pub certificate : Snapshot → (since : ℤ) → Reply
 certificate s since =
     let representable : Bool = totalsFit (s .rows) in
     done
-    (Version (s .version)
-    ∷ Count (length (s .rows))
-    ∷ Count (s .active)
-    ∷ YesOrNo (representable && isNone (conservation (s .rows)))
-    ∷ Amount (cond representable (initialTotal (s .rows)) (pos 0))
-    ∷ Amount (cond representable (committedRowsTotal (s .rows)) (pos 0))
-    ∷ YesOrNo representable
-    ∷ Amount since
-    ∷ [])
+    (Version (s .version) ∷ Count (length (s .rows)) ∷ Count (s .active) ∷ YesOrNo (representable && isNone (conservation (s .rows)))
+    ∷ Amount (cond representable (initialTotal (s .rows)) (pos 0)) ∷ Amount (cond representable (committedRowsTotal (s .rows)) (pos 0)) ∷ YesOrNo representable
+    ∷ Amount since ∷ [])
 
 unfoldable pub certificateOfSnapshot : (since : ℤ) → Snapshot → Reply
 certificateOfSnapshot since s = replyOr (hasLongName (s .rows) gives NameTooLong else passes) (certificate s since)
@@ -390,8 +381,6 @@ conservationProof L =
     takingSnapshot L
     (cond (totalsFit (s .rows))
     (outcome
-    (done
-    (Version (s .version) ∷ Count (length (s .rows)) ∷ Count (s .active)
-    ∷ Amount (initialTotal (s .rows)) ∷ Amount (committedRowsTotal (s .rows)) ∷ YesOrNo true ∷ []))
+    (done (Version (s .version) ∷ Count (length (s .rows)) ∷ Count (s .active) ∷ Amount (initialTotal (s .rows)) ∷ Amount (committedRowsTotal (s .rows)) ∷ YesOrNo true ∷ []))
     (afterSnapshot L))
     (refused AggregateOverflow (afterSnapshot L)))

@@ -11,7 +11,7 @@ ghost use Prim.Native.Nat.{_≤_};
 ghost use mathlib.Core.Path.{_≡_};
 ghost use lib.ListN.{length};
 ghost use Rattle.rules.specs.RoomAndSoundLedger.{longestName};
-ghost use Rattle.rules.specs.Frames.{flag};
+ghost use mathlib.Core.Bool.{cond};
 ghost use Rattle.validation.specs.Judgement.{judgedReply};
 ghost use Rattle.certificates.specs.Certified.{certificateReply, certifiedReply, proofReply, provedReply};
 ghost use Rattle.answer_bytes.specs.Sizes.{longestOtherAnswer};
@@ -65,7 +65,7 @@ pub fn write_judged(output: &mut [u8], judged: Judged) -> usize
 }
 
 fn flag(yes: bool) -> u8
-    ensures { λ r. ⌜ r ≡ flag yes ⌝ }
+    ensures { λ r. ⌜ r ≡ cond yes 1 0 ⌝ }
 {
     if yes {
         return 1;

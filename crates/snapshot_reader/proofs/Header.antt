@@ -2,13 +2,14 @@
 -- by step, from what each of its parts takes (RowBytes).
 use mathlib.Core.Path.{_≡_, refl, sym, _∙_, ap, subst}
 use mathlib.Core.List.{List, [], _∷_}
+use mathlib.Core.Bool.{cond}
 use mathlib.Core.Option.{Option, none, some}
 use Prim.Native.Nat.{ℕ, zero, suc, _≤_, _<_}
 use native.Mathlib.Omega.{arith}
 use borrow.Author.Tests.{ltb-true, ltb-false, lt-ltb, le-ltb, eqb-true}
 use lib.Dec.{ltb, eqb}
 use lib.ListN.{length, take, drop, drop-of-length-le}
-use Rattle.rules.specs.SnapshotsMigrationCertificates.{Row, Snapshot, Reading, Reader, reads, goOn, whole, numberOf, unlessTooMany, readRow, readRows, readCount, readSnapshot, snapshotOfBytes, mostRows}
+use Rattle.rules.specs.SnapshotsMigrationCertificates.{Row, Snapshot, Reading, Reader, reads, goOn, whole, numberOf, readRow, readRows, readCount, readSnapshot, snapshotOfBytes, mostRows}
 use Rattle.rules.proofs.Tests.{by-bool, by-test, none-some}
 use Rattle.rules.proofs.Reading.{after}
 use Rattle.big_endian.specs.Layout.{activeStart, countStart, snapshotHeader}
@@ -26,6 +27,10 @@ withRows bs rs = record { version = numberOf (take 8 bs); active = numberOf (tak
 
 abbrev pub rowsAfter : List ℕ → Option (Reading (List Row))
 rowsAfter bs = readRows (countIn bs) (drop snapshotHeader bs)
+
+-- what follows the number of rows, as `readCount` has it
+abbrev unlessTooMany : ℕ → Reader ℕ
+unlessTooMany count bs = cond (ltb mostRows count) none (reads count bs)
 
 module _ (bs : List ℕ) where
   count-read : snapshotHeader ≤ length bs → countIn bs ≤ mostRows → readCount (drop countStart bs) ≡ some (after (countIn bs) (drop snapshotHeader bs))

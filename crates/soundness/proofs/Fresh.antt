@@ -1,15 +1,15 @@
 -- When a ledger is made, and that zeros with the sizes and the head stored over them are its room.
-use mathlib.Core.Path.{_≡_, sym, ap, ap₂, _∙_, subst}
-use mathlib.Core.Bool.{true, _&&_}
+use mathlib.Core.Path.{_≡_, refl, sym, ap, ap₂, _∙_}
+use mathlib.Core.Bool.{true, cond, _&&_}
 use mathlib.Core.List.{List, []}
-use mathlib.Core.Option.{some}
+use mathlib.Core.Option.{none, some}
 use Prim.Native.Nat.{ℕ, _+_, _-_, _*_, _≤_}
 use native.Mathlib.Omega.{arith}
-use borrow.Author.Tests.{leb-true, le-leb}
+use borrow.Author.Tests.{leb-true, le-leb, eq-eqb, ne-eqb}
 use lib.Dec.{leb}
 use lib.ListN.{length, replicate, length-replicate}
-use Rattle.rules.specs.RoomAndSoundLedger.{Ledger, Sound, InRange, isInRange, fresh, made, mostNames, mostReservations}
-use Rattle.rules.proofs.Tests.{by-test, and-true, none-some}
+use Rattle.rules.specs.RoomAndSoundLedger.{Ledger, InRange, isInRange, fresh, made, mostNames, mostReservations}
+use Rattle.rules.proofs.Tests.{by-test, by-option, and-true, none-some}
 use Rattle.rules.proofs.SnapshotSoundness.{fresh-sound}
 use Rattle.records.specs.Layout.{ledgerHeadOffset, ledgerHeadSize, countsOffset, capacityOffset, pairSize, placeSize, bookingSize, headSize}
 use Rattle.records.specs.Rows.{put}
@@ -21,6 +21,9 @@ use Rattle.records.proofs.Rows.{put-length}
 use Rattle.records.proofs.Room.{sizes-stored, head-stored}
 use Rattle.room.specs.Contents.{contents, contentsOf, baseOf, roomSize, emptyPlace, emptyBooking}
 use Rattle.room.specs.Room.{filled, contentsIn, IsRoom}
+use Rattle.room.specs.LedgerBytes.{ledgerBytes}
+use Rattle.room.proofs.LedgerBytes.{is-its-room}
+use Rattle.soundness.specs.Making.{madeIn}
 use Rattle.soundness.proofs.Zeros.{zeros, row-zeros, zeros-empty}
 use Rattle.soundness.proofs.Parts.{empty-place, empty-booking, contents-with}
 
@@ -45,11 +48,28 @@ module _ (t r : ℕ) where
   made-fresh h k = rw (is-in-range 1 mostNames t h, is-in-range 1 mostReservations r k)
 
 -- the ledger that is made is sound, so memory of its size and contents is its room
-pub made-room : (t r : ℕ) (L : Ledger) → made t r ≡ some L → (after : List ℕ) → length after ≡ roomSize t r → contentsOf after ≡ contentsIn (fresh t r) → IsRoom after L
+pub made-room : (t r : ℕ) → InRange 1 mostNames t → InRange 1 mostReservations r → (after : List ℕ) → length after ≡ roomSize t r → contentsOf after ≡ contentsIn (fresh t r) → IsRoom after (fresh t r)
 unfolding fresh
-made-room t r L e after size holds =
-    let (a, b, q) = made-some t r L e in
-    record { size = size ∙ ap (λ K. roomSize (K .T) (K .R)) q; holds = holds ∙ ap contentsIn q; sound = subst Sound q (fresh-sound t r a b) }
+made-room t r a b after size holds = record { size = size; holds = holds; sound = fresh-sound t r a b }
+
+-- ── in which memory ────────────────────────────────────────────────────────────────────────────
+
+-- the bytes that a fresh ledger takes
+pub fresh-size : (t r : ℕ) → InRange 1 mostNames t → InRange 1 mostReservations r → length (ledgerBytes (fresh t r)) ≡ roomSize t r
+unfolding fresh
+fresh-size t r a b = is-its-room (fresh t r) (fresh-sound t r a b) .size
+
+module _ (t r : ℕ) (memory : List ℕ) where
+  pub made-here : InRange 1 mostNames t → InRange 1 mostReservations r → length memory ≡ roomSize t r → madeIn memory (made t r) ≡ some (fresh t r)
+  made-here a b size =
+      ap (madeIn memory) (made-fresh t r a b) ∙ ap (λ x. cond x (some (fresh t r)) none) (eq-eqb (length memory) (length (ledgerBytes (fresh t r))) (size ∙ sym (fresh-size t r a b)))
+
+  pub none-here : (InRange 1 mostNames t → InRange 1 mostReservations r → length memory ≡ roomSize t r → ⊥) → madeIn memory (made t r) ≡ none
+  none-here out = by-option (λ o. madeIn memory o ≡ none) (made t r) (λ _. refl)
+      (λ L e.
+      let (a, b, q) = made-some t r L e in
+      ap (λ x. cond x (some L) none)
+      (ne-eqb (length memory) (length (ledgerBytes L)) (λ h. out a b (h ∙ ap (λ K. length (ledgerBytes K)) (sym q) ∙ fresh-size t r a b))))
 
 -- ── the room of a fresh ledger ─────────────────────────────────────────────────────────────────
 

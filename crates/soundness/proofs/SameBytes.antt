@@ -1,20 +1,17 @@
 -- What the contracts leave open: nothing. For any memory, the answer and every byte at exit are fixed; and where the rules leave the ledger as it was, as
 -- every refusal but 6 does, no byte changes.
-use mathlib.Core.Path.{_≡_, sym, _∙_, subst, ap}
+use mathlib.Core.Path.{_≡_, sym, _∙_, subst}
 use mathlib.Core.Bool.{Bool}
 use mathlib.Core.List.{List}
-use mathlib.Core.Option.{some}
+use mathlib.Core.Option.{Option, none, some}
 use Prim.Native.Nat.{ℕ}
-use lib.ListN.{length}
 use Rattle.rules.specs.Lists.{All}
-use Rattle.rules.specs.RoomAndSoundLedger.{Ledger, IsByte, made}
+use Rattle.rules.specs.RoomAndSoundLedger.{Ledger, IsByte}
 use Rattle.rules.specs.AnswerNumbers.{Reply, Outcome}
 use Rattle.rules.proofs.Tests.{by-bool}
-use Rattle.room.specs.Contents.{roomSize}
 use Rattle.room.specs.Room.{IsRoom, SoundRoom, Answers}
 use Rattle.room.proofs.Decoding.{canonical}
 use Rattle.soundness.specs.Facts.{Decides}
-use Rattle.soundness.specs.declared.Made.{Made}
 use Rattle.soundness.specs.Making.{Makes}
 
 module _ (before : List ℕ) where
@@ -35,7 +32,7 @@ module _ (before : List ℕ) where
     pub same-bytes : (L : Ledger) → IsRoom before L → All IsByte before → f L .ledger ≡ L → after ≡ before
     same-bytes L room before-bytes kept = canonical after before L bytes before-bytes (subst (IsRoom after) kept (answers .sound-room L room .room)) room
 
--- A ledger that is made is a sound one, in its room.
-module _ (names reservations : ℕ) (L : Ledger) (is-made : made names reservations ≡ some L) (before : List ℕ) (size : length before ≡ roomSize names reservations) (r : Made) (after : List ℕ) where
-  pub made-is-room : Makes names reservations before r after → IsRoom after L
-  made-is-room makes = makes .overwrites L is-made size .room
+-- of `soundness::make`, and of `zatovola_make`, whose reply is its number
+pub same-made : (o : Option Ledger) (before after others : List ℕ) (r s : Reply) → All IsByte after → All IsByte others → Makes o before r after → Makes o before s others → (r ≡ s) × (after ≡ others)
+same-made none before after others r s bytes other-bytes (a, b) (c, d) = (a ∙ sym c, b ∙ sym d)
+same-made (some L) before after others r s bytes other-bytes (a, b) (c, d) = (a ∙ sym c, canonical after others L bytes other-bytes b d)

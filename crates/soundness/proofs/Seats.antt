@@ -1,12 +1,13 @@
 -- A sound seat is one whose amounts add up, with the flag 1, or with the flag 0, no amounts and a limit.
 use mathlib.Core.Path.{_≡_, sym, _∙_, ap, subst}
 use mathlib.Core.Logic.{⊎-elim}
-use mathlib.Core.Bool.{false}
+use mathlib.Core.Bool.{false, not, _&&_}
 use mathlib.Core.Option.{none, some}
+use lib.Dec.{eqb}
 use Prim.Native.Nat.{_≤_}
 use native.Mathlib.Omega.{arith}
 use borrow.Author.Tests.{eqb-false, ne-eqb}
-use Rattle.rules.specs.RoomAndSoundLedger.{M, isVacant, hasNothing, AddsUp}
+use Rattle.rules.specs.RoomAndSoundLedger.{M, isVacant, hasAccount, AddsUp}
 use Rattle.rules.proofs.Tests.{equal-or-not}
 use Rattle.moves.specs.declared.Seat.{Seat}
 use Rattle.moves.specs.Moves.{accountIn, accountOf, meaning, kept, keptSeat, SeatSound}
@@ -33,7 +34,7 @@ module _ (s : Seat) where
   no-amounts sound e = sym (ap (λ t. t .initial) (bare sound e))
 
   pub a-limit : SeatHeld s → s .account ≡ 0 → s .limit ≡ 0 → ⊥
-  a-limit held e = eqb-false (s .limit) 0 (ap (λ o. hasNothing o (s .limit)) (sym (without-account s e)) ∙ held .1)
+  a-limit held e = eqb-false (s .limit) 0 (ap (λ o. not (hasAccount o) && eqb (s .limit) 0) (sym (without-account s e)) ∙ held .1)
 
   -- amounts that are zero add up too
   pub sound-adds-up : SeatSound s → AmountsAddUp s
@@ -53,7 +54,7 @@ module _ (s : Seat) where
   held-with-account e h l =
       let n : s .account ≡ 0 → ⊥ = λ z. omega arith in (
         subst (λ a. SeatSound (record { initial = s .initial; remaining = s .remaining; reserved = s .reserved; committed = s .committed; limit = s .limit; account = a })) (sym e) (account-sound (s .initial) (s .remaining) (s .reserved) (s .committed) (s .limit) (h .0) (h .1) l),
-        ap (λ o. hasNothing o (s .limit)) (with-account s n),
+        ap (λ o. not (hasAccount o) && eqb (s .limit) 0) (with-account s n),
       )
 
   pub held-without-account : s .account ≡ 0 → s .initial ≡ 0 → AmountsAddUp s → s .limit ≤ M → (s .limit ≡ 0 → ⊥) → SeatHeld s
@@ -64,5 +65,5 @@ module _ (s : Seat) where
       let committed : 0 ≡ s .committed = omega arith in
       let is-bare : kept none (s .limit) ≡ s = λ i. record { initial = sym z i; remaining = remaining i; reserved = reserved i; committed = committed i; limit = s .limit; account = sym e i } in (
         record { form = ap (λ o. kept o (s .limit)) (without-account s e) ∙ is-bare; adds-up = subst AddsUp (sym (without-account s e)) tt; limit = l },
-        ap (λ o. hasNothing o (s .limit)) (without-account s e) ∙ ne-eqb (s .limit) 0 n,
+        ap (λ o. not (hasAccount o) && eqb (s .limit) 0) (without-account s e) ∙ ne-eqb (s .limit) 0 n,
       )

@@ -1,18 +1,17 @@
 -- Room not in use: rows of zero bytes are empty records, over any width.
-use mathlib.Core.Path.{_≡_, refl, sym, ap, ap₂, _∙_, subst}
+use mathlib.Core.Path.{_≡_, refl, sym, ap, _∙_}
 use mathlib.Core.Logic.{⊎-elim}
-use mathlib.Core.List.{List, _∷_, _++_, map}
-use Prim.Native.Nat.{ℕ, zero, suc, _+_, _-_, _*_, _≤_, _<_}
-use native.Mathlib.Nat.{mul-zero, mul-suc, mul-add, add-comm, not-suc-le-zero, le-of-suc-le-suc}
+use mathlib.Core.List.{List, [], _∷_, _++_, map, append-nil}
+use Prim.Native.Nat.{ℕ, zero, suc, _+_, _-_, _*_, _≤_}
+use native.Mathlib.Nat.{mul-add, not-suc-le-zero, le-of-suc-le-suc}
 use native.Mathlib.Omega.{arith}
-use lib.ListN.{length, getD, take, drop, replicate, length-replicate, replicate-append-replicate, List·getD-eq-default}
-use lib.Seq.{take-at, drop-at}
+use lib.ListN.{length, getD, take, drop, replicate, length-replicate, List·getD-eq-default}
 use Rattle.rules.specs.Lists.{All}
 use Rattle.rules.specs.RoomAndSoundLedger.{IsByte}
 use Rattle.names.proofs.Storing.{getD-repeat, drop-repeat, is-repeat}
-use Rattle.numbers.proofs.Bytes.{all-at}
+use Rattle.numbers.proofs.Bytes.{all-repeat}
 use Rattle.records.specs.Rows.{row, rows, table}
-use Rattle.records.proofs.Rows.{row-length, rows-within, joined, table-drop}
+use Rattle.records.proofs.Rows.{row-length, rows-within, joined, table-drop, Readable, rows-joined, zeros-joined}
 use Rattle.records.proofs.Room.{table-bytes}
 use Rattle.soundness.specs.Steps.{ZeroBelow}
 use Rattle.soundness.proofs.Deciding.{less-or-not}
@@ -40,21 +39,18 @@ module _ {A : Type 0} (read : List ℕ → A) (write : A → List ℕ) (k : ℕ)
   empty = read (zeros k)
 
   row-of-zeros : write empty ≡ zeros k
-  row-of-zeros = back (zeros k) (all-at IsByte 0 (zeros k) (λ i. subst (λ n. n < 256) (sym (getD-repeat {A = ℕ} 0 k i)) (omega arith))) (length-replicate k 0)
-
-  one-row : (n : ℕ) → zeros (k * suc n) ≡ zeros k ++ zeros (k * n)
-  one-row n = ap zeros (mul-suc k n ∙ add-comm (k * n) k) ∙ sym (replicate-append-replicate k (k * n) 0)
-
-  rows-of-zeros : (n : ℕ) → map read (rows k n (zeros (k * n))) ≡ replicate n empty
-  rows-of-zeros zero = refl
-  rows-of-zeros (suc n) =
-      ap (λ ys. map read (rows k (suc n) ys)) (one-row n)
-      ∙ ap₂ (λ w ws. read w ∷ map read (rows k n ws)) (take-at (zeros k) (zeros (k * n)) k (length-replicate k 0)) (drop-at (zeros k) (zeros (k * n)) k (length-replicate k 0))
-      ∙ ap (λ t. empty ∷ t) (rows-of-zeros n)
+  row-of-zeros = back (zeros k) (all-repeat IsByte 0 (omega arith) k) (length-replicate k 0)
 
   bytes-of-empty : (n : ℕ) → joined (map write (replicate n empty)) ≡ zeros (k * n)
-  bytes-of-empty zero = rw mul-zero
-  bytes-of-empty (suc n) = ap₂ _++_ row-of-zeros (bytes-of-empty n) ∙ sym (one-row n)
+  bytes-of-empty = zeros-joined write k empty row-of-zeros
+
+  rows-of-zeros : (n : ℕ) → map read (rows k n (zeros (k * n))) ≡ replicate n empty
+  rows-of-zeros n =
+      let qs : List A = replicate n empty in
+      let readable : All (Readable read write k) qs = all-repeat (Readable read write k) empty (ap length row-of-zeros ∙ length-replicate k 0, ap read row-of-zeros) n in
+      ap (λ ys. map read (rows k n ys)) (sym (bytes-of-empty n) ∙ sym (append-nil (joined (map write qs))))
+      ∙ ap (λ m. map read (rows k m (joined (map write qs) ++ []))) (sym (length-replicate n empty))
+      ∙ rows-joined read write k qs [] readable
 
   module _ (b n : ℕ) (xs : List ℕ) where
     pub zeros-empty : row (k * n) b xs ≡ zeros (k * n) → table read k b n xs ≡ replicate n empty

@@ -1,26 +1,29 @@
 -- Document 01, Room and the sound ledger, making a fresh ledger: T or R out of range is refused with 24. Our decision: so is memory that is not of
 -- just the size that they ask for.
 use mathlib.Core.Path.{_≡_}
-use mathlib.Core.List.{List}
-use mathlib.Core.Option.{none, some}
+use mathlib.Core.Bool.{cond}
+use mathlib.Core.List.{List, []}
+use mathlib.Core.Option.{Option, none, some}
 use Prim.Native.Nat.{ℕ}
+use lib.Dec.{eqb}
 use lib.ListN.{length}
-use Rattle.rules.specs.RoomAndSoundLedger.{Ledger, made}
-use Rattle.room.specs.Contents.{roomSize}
+use Rattle.rules.specs.RoomAndSoundLedger.{Ledger}
+use Rattle.rules.specs.AnswerNumbers.{Reply, UnsoundLedger, done, replyOf}
 use Rattle.room.specs.Room.{IsRoom}
+use Rattle.room.specs.LedgerBytes.{ledgerBytes}
 use Rattle.soundness.specs.declared.Made.{Made}
-use Rattle.soundness.specs.declared.Made.the-variants.{Done, UnsoundLedger}
+use Rattle.soundness.specs.declared.Made.the-variants as made
 
--- the memory is overwritten: it is the room of this ledger
-pub record Overwritten (L : Ledger) (r : Made) (after : List ℕ) : Type 0 where
-  pub answer : r ≡ Done
-  pub room : IsRoom after L
+-- the ledger, where the memory has just the bytes that it takes
+abbrev pub madeIn : (memory : List ℕ) → Option Ledger → Option Ledger
+madeIn memory none = none
+madeIn memory (some L) = cond (eqb (length memory) (length (ledgerBytes L))) (some L) none
 
-pub record Untouched (before : List ℕ) (r : Made) (after : List ℕ) : Type 0 where
-  pub answer : r ≡ UnsoundLedger
-  pub same : after ≡ before
+-- the memory is overwritten and is the ledger's room, or no ledger is made and no byte has changed
+abbrev pub Makes : Option Ledger → (before : List ℕ) → Reply → (after : List ℕ) → Type 0
+Makes none before r after = (r ≡ replyOf UnsoundLedger) × (after ≡ before)
+Makes (some L) before r after = (r ≡ done []) × IsRoom after L
 
-pub record Makes (names reservations : ℕ) (before : List ℕ) (r : Made) (after : List ℕ) : Type 0 where
-  pub overwrites : (L : Ledger) → made names reservations ≡ some L → length before ≡ roomSize names reservations → Overwritten L r after
-  pub out-of-range : made names reservations ≡ none → Untouched before r after
-  pub other-size : (length before ≡ roomSize names reservations → ⊥) → Untouched before r after
+abbrev pub madeReply : Made → Reply
+madeReply made.Done = done []
+madeReply made.UnsoundLedger = replyOf UnsoundLedger

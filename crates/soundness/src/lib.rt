@@ -8,7 +8,7 @@ ghost use mathlib.Core.Path.{_≡_};
 ghost use mathlib.Core.Bool.{true, false};
 ghost use Prim.Native.Nat.{_+_, _-_, _*_, _^_, _≤_, _<_};
 ghost use lib.ListN.{length, replicate};
-ghost use Rattle.rules.specs.RoomAndSoundLedger.{M, InRange, isVacant};
+ghost use Rattle.rules.specs.RoomAndSoundLedger.{M, InRange, isVacant, made};
 ghost use Rattle.names.specs.Names.{IsStored};
 ghost use Rattle.moves.specs.Moves.{meaning, SeatSound};
 ghost use Rattle.records.specs.Layout.{placeStart, placeSize, bookingSize};
@@ -19,7 +19,7 @@ ghost use Rattle.room.specs.Room.{SoundRoom};
 ghost use Rattle.room.specs.Seats.{seatOfPlace};
 ghost use Rattle.soundness.specs.Facts.{Decides, SizesSound, VersionSound, HeadSound, PlacesSound, TablesSound, RoomFacts};
 ghost use Rattle.soundness.specs.Steps.{Leaves, ZeroBelow, placeAt, NameFollows, Noted, Follows, Booked};
-ghost use Rattle.soundness.specs.Making.{Makes};
+ghost use Rattle.soundness.specs.Making.{madeIn, Makes, madeReply};
 
 // The numbers of `rules`, of the type that the fields of a room have.
 const MOST_NAMES: u64 = rules::MOST_NAMES as u64;
@@ -379,7 +379,7 @@ fn clear(room: &mut [u8])
 
 // A fresh ledger (document 01, Room and the sound ledger): over zeros only the sizes and the next id are left to write.
 pub fn make(room: &mut [u8], names: u64, reservations: u64) -> Made
-    ensures { λ r. ⌜ Makes names reservations (now (room .entry)) r (now (room .exit)) ⌝ }
+    ensures { λ r. ⌜ Makes (madeIn (now (room .entry)) (made names reservations)) (now (room .entry)) (madeReply r) (now (room .exit)) ⌝ }
 {
     let sizes = Sizes {
         names,

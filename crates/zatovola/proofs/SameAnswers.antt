@@ -1,55 +1,25 @@
--- What the contracts leave open: nothing, refusals included. One ledger has one room (`canonical`), and memory that is no room stays. Whether memory is a room
+-- What the contracts leave open: nothing, refusals included. One ledger has one room, and memory that is no room stays. Whether memory is a room
 -- need not be decided: equality of numbers and of bytes is, and holds whatever is lent (`by-lent`).
 use mathlib.Core.Path.{_≡_, refl, sym, ap, _∙_}
 use mathlib.Core.Logic.{_⊎_, inl, inr, ⊎-elim, _≢_}
 use mathlib.Core.List.{List}
-use mathlib.Core.Option.{Option, none, some}
+use mathlib.Core.Option.{Option}
 use Prim.Native.Nat.{ℕ}
 use lib.ListN.{length}
 use Rattle.rules.specs.Lists.{All}
-use Rattle.rules.specs.RoomAndSoundLedger.{Ledger, IsByte, made}
+use Rattle.rules.specs.RoomAndSoundLedger.{IsByte, made}
 use Rattle.rules.specs.AnswerNumbers.{Lent, sound, unsound}
 use Rattle.rules.specs.Frames.{Operation}
-use Rattle.rules.proofs.Tests.{by-option, equal-or-not}
+use Rattle.rules.proofs.Tests.{equal-or-not}
 use Rattle.rules.proofs.Names.{same-false, same-or-not}
-use Rattle.room.specs.Contents.{roomSize}
-use Rattle.room.proofs.Decoding.{canonical}
-use Rattle.soundness.specs.Making.{Untouched}
 use Rattle.soundness.proofs.Deciding.{less-or-not}
-use Rattle.soundness.proofs.SameBytes.{made-is-room}
 use Rattle.frames.specs.Answering.{IsLent, roomFor}
 use Rattle.lines.proofs.SameAnswers.{same-after}
-use Rattle.zatovola.specs.Interface.{bytesOfRoom, madeNumber, MakesNumber, PromisesFrame}
+use Rattle.zatovola.specs.Interface.{bytesOfRoom, PromisesFrame}
 
 -- of `zatovola_room_size`
 pub same-size : (names reservations m n : ℕ) → m ≡ bytesOfRoom (made names reservations) → n ≡ bytesOfRoom (made names reservations) → m ≡ n
 same-size names reservations m n one two = one ∙ sym two
-
--- of `zatovola_make`
-module _ (names reservations : ℕ) (before : List ℕ) (m n : ℕ) (after others : List ℕ) (bytes : All IsByte after) (other-bytes : All IsByte others)
-    (one : MakesNumber names reservations before m after) (two : MakesNumber names reservations before n others) where
-  same-number : one .made ≡ two .made → m ≡ n
-  same-number e = one .number ∙ ap madeNumber e ∙ sym (two .number)
-
-  refused : Untouched before (one .made) after → Untouched before (two .made) others → (m ≡ n) × (after ≡ others)
-  refused a b = (same-number (a .answer ∙ sym (b .answer)), a .same ∙ sym (b .same))
-
-  overwritten : (L : Ledger) → made names reservations ≡ some L → length before ≡ roomSize names reservations → (m ≡ n) × (after ≡ others)
-  overwritten L is size =
-      let a = one .makes .overwrites L is size in
-      let b = two .makes .overwrites L is size in
-      let room = made-is-room names reservations L is before size (one .made) after (one .makes) in
-      let other-room = made-is-room names reservations L is before size (two .made) others (two .makes) in
-      (same-number (a .answer ∙ sym (b .answer)), canonical after others L bytes other-bytes room other-room)
-
-  pub same-made : (m ≡ n) × (after ≡ others)
-  same-made = by-option (λ _. (m ≡ n) × (after ≡ others)) (made names reservations)
-      (λ is. refused (one .makes .out-of-range is) (two .makes .out-of-range is))
-      (λ L is.
-      ⊎-elim
-      (overwritten L is)
-      (λ other. refused (one .makes .other-size other) (two .makes .other-size other))
-      (equal-or-not (length before) (roomSize names reservations)))
 
 -- ── an answer ──────────────────────────────────────────────────────────────────────────────────
 

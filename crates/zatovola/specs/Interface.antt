@@ -1,4 +1,4 @@
--- What the functions for C and Rust promise, in numbers: an answer number for an answer's enum, a count for an answer's size.
+-- What the functions for C and Rust promise, in numbers.
 use mathlib.Core.Path.{_≡_}
 use mathlib.Core.List.{List}
 use mathlib.Core.Option.{Option, none, some}
@@ -7,27 +7,14 @@ use lib.ListN.{length}
 use Rattle.rules.specs.RoomAndSoundLedger.{Ledger}
 use Rattle.rules.specs.AnswerNumbers.{Lent}
 use Rattle.rules.specs.Frames.{Operation}
-use Rattle.room.specs.Contents.{roomSize}
-use Rattle.soundness.specs.Making.{Makes}
-use Rattle.soundness.specs.declared.Made.{Made}
-use Rattle.soundness.specs.declared.Made.the-variants.{Done, UnsoundLedger}
+use Rattle.room.specs.LedgerBytes.{ledgerBytes}
 use Rattle.frames.specs.Answering.{OfLent, AnswersOperation, roomFor}
 use Rattle.lines.specs.declared.Progress.{Progress}
 
 -- the bytes that the room of a ledger takes; none, where T or R is out of range
 abbrev pub bytesOfRoom : Option Ledger → ℕ
 bytesOfRoom none = 0
-bytesOfRoom (some L) = roomSize (L .T) (L .R)
-
--- a fresh ledger made is 0; no ledger, for a T or an R out of range or a room of another size, is 24
-abbrev pub madeNumber : Made → ℕ
-madeNumber Done = 0
-madeNumber UnsoundLedger = 24
-
-pub record MakesNumber (names reservations : ℕ) (before : List ℕ) (r : ℕ) (after : List ℕ) : Type 0 where
-  pub made : Made
-  pub number : r ≡ madeNumber made
-  pub makes : Makes names reservations before made after
+bytesOfRoom (some L) = length (ledgerBytes L)
 
 -- the answer is given exactly where there is room for the longest one to this operation, and else nothing changes
 pub record FrameAnswered (o : Option Operation) (l : Lent) (before after output-before output-after : List ℕ) (written : ℕ) : Type 0 where

@@ -2,10 +2,13 @@
 // functions asks anything of its caller.
 use soundness::Made;
 ghost use mathlib.Core.Path.{_≡_};
+ghost use mathlib.Core.List.{[]};
 ghost use Rattle.rules.specs.RoomAndSoundLedger.{made};
+ghost use Rattle.rules.specs.AnswerNumbers.{reply};
 ghost use Rattle.rules.specs.Frames.{operationOf};
+ghost use Rattle.soundness.specs.Making.{madeIn, Makes};
 ghost use Rattle.lines.specs.Batching.{PromisesBatch, ProgressWithin};
-ghost use Rattle.zatovola.specs.Interface.{bytesOfRoom, MakesNumber, PromisesFrame, progress};
+ghost use Rattle.zatovola.specs.Interface.{bytesOfRoom, PromisesFrame, progress};
 
 // Sizes, in the width that they have in C.
 const MOST_NAMES: u64 = rules::MOST_NAMES as u64;
@@ -35,7 +38,7 @@ pub extern "C" fn zatovola_room_size(names: u64, reservations: u64) -> u64
 // A fresh ledger in the whole of the lent room: 0, or 24 and nothing changed where T or R is out of range or the room is of another size.
 #[no_mangle]
 pub extern "C" fn zatovola_make(room: &mut [u8], names: u64, reservations: u64) -> u8
-    ensures { λ r. ⌜ MakesNumber names reservations (now (room .entry)) r (now (room .exit)) ⌝ }
+    ensures { λ r. ⌜ Makes (madeIn (now (room .entry)) (made names reservations)) (now (room .entry)) (reply r []) (now (room .exit)) ⌝ }
 {
     let made = soundness::make(room, names, reservations);
     match made {

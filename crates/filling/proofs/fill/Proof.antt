@@ -6,6 +6,7 @@ use Rattle.rules.specs.RoomAndSoundLedger.{fenceOf, fresh}
 use Rattle.room.specs.Room.{IsRoom, OfRoom}
 use Rattle.snapshot_reader.specs.Standing.{OfSnapshot}
 use Rattle.room.proofs.SoundRoom.{sized}
+use Rattle.soundness.specs.Making.{madeReply}
 use Rattle.filling.specs.Filling.{PutsRows}
 use Rattle.filling.proofs.Renewing.{made-anew, empty-takes, head-written}
 use Rattle.filling.proofs.fill.Statement.{statement}
@@ -15,7 +16,7 @@ abbrev entry : tie.After-make → tie.Start
 entry c = c .before .before .before .before .before .before
 
 emptied : (c : tie.After-make) → OfRoom (entry c .args .room .now) (λ L. IsRoom (c .make .last .0) (fresh (L .T) (L .R)))
-emptied c L room = made-anew (entry c .args .room .now) (c .make .last .0) L room (c .before .before .load-sizes .result) (c .before .before .load-sizes .ensures) (c .make .result) (c .make .ensures)
+emptied c L room = made-anew (entry c .args .room .now) (c .make .last .0) L room (c .before .before .load-sizes .result) (c .before .before .load-sizes .ensures) (madeReply (c .make .result)) (c .make .ensures)
 
 put-rows-requires : tie.Need-put-rows-requires
 put-rows-requires c κs =

@@ -1,28 +1,31 @@
 -- `soundness::make` meets its contract: a refusal is one of `sizes_sound`; else the room is zeros with the sizes and the head stored over them, which
 -- Fresh shows to be a fresh ledger's.
-use mathlib.Core.Path.{_≡_, refl, sym, ap, _∙_}
+use mathlib.Core.Path.{_≡_, refl, sym, ap, _∙_, subst}
+use mathlib.Core.List.{[]}
 use native.Mathlib.Omega.{arith}
 use borrow.Author.Needs.{needs}
 use lib.ListN.{length}
-use Rattle.rules.proofs.Tests.{none-some}
+use Rattle.rules.specs.AnswerNumbers.{UnsoundLedger, done, replyOf}
 use Rattle.records.specs.Layout.{ledgerHeadOffset, ledgerHeadSize}
 use Rattle.records.specs.Rows.{put}
 use Rattle.records.specs.Records.{headBytes}
 use Rattle.room.specs.Contents.{contentsOf}
 use Rattle.soundness.specs.Facts.{SizesSound}
+use Rattle.soundness.specs.Making.{Makes}
 use Rattle.soundness.proofs.Deciding.{refused, accepted}
-use Rattle.soundness.proofs.Fresh.{made-some, made-fresh, made-room, freshSizes, freshHead, sizesPut, fresh-room}
+use Rattle.soundness.proofs.Fresh.{made-here, none-here, made-room, freshSizes, freshHead, sizesPut, fresh-room}
 use Rattle.soundness.proofs.Zeros.{zeros}
 use Rattle.soundness.proofs.make.Statement.{statement}
 use Rattle.soundness.proofs.make.Tie as tie
 
 returns : tie.Need-returns
 returns c =
-    record {
-      overwrites = λ L e size. let m = made-some _ _ L e in absurd (refused (c .before .sizes-sound .ensures) (c .if1 .taken) (record { names = m .0; reservations = m .1; used = omega arith; live = omega arith; size = size }));
-      out-of-range = λ _. record { answer = refl; same = refl };
-      other-size = λ _. record { answer = refl; same = refl };
-    }
+    let a = c .before .before .before .args in
+    let before = a .room .now in
+    subst (λ o. Makes o before (replyOf UnsoundLedger) before)
+    (sym (none-here (a .names) (a .reservations) before (λ names reservations size. refused (c .before .sizes-sound .ensures) (c .if1 .taken)
+    (record { names = names; reservations = reservations; used = omega arith; live = omega arith; size = size }))))
+    (refl, refl)
 
 sized : (c : tie.Else1) → let a = c .before .before .before .args in SizesSound (freshSizes (a .names) (a .reservations)) (length (a .room .now))
 sized c = accepted (c .before .sizes-sound .ensures) (c .if1 .left)
@@ -47,15 +50,13 @@ returns-2 c =
     let a = start .before .before .before .args in
     let written : head .store-head .last .0 ≡ put ledgerHeadOffset ledgerHeadSize (sizesPut (freshSizes (a .names) (a .reservations)) (zeros (length (a .room .now)))) (headBytes freshHead) =
     head .store-head .ensures .0 ∙ ap (λ xs. put ledgerHeadOffset ledgerHeadSize xs (headBytes freshHead)) (sizes .store-sizes .ensures .0 ∙ ap (sizesPut (freshSizes (a .names) (a .reservations))) (cleared .clear .ensures)) in
-    record {
-      overwrites = λ L e size. record {
-        answer = refl;
-        room = made-room (a .names) (a .reservations) L e (head .store-head .last .0) (head .store-head .kept .0 ∙ sizes .store-sizes .kept .0 ∙ cleared .clear .kept .0 ∙ size)
-            (ap contentsOf written ∙ fresh-room _ _ _ size (sizes .store-sizes .ensures .1) (head .store-head .ensures .1));
-      };
-      out-of-range = λ e. none-some (sym e ∙ made-fresh _ _ (sized start .names) (sized start .reservations));
-      other-size = λ n. absurd (n (sized start .size));
-    }
+    let fits = sized start in
+    let after = head .store-head .last .0 in
+    subst (λ o. Makes o (a .room .now) (done []) after) (sym (made-here (a .names) (a .reservations) (a .room .now) (fits .names) (fits .reservations) (fits .size))) (
+      refl,
+      made-room (a .names) (a .reservations) (fits .names) (fits .reservations) after (head .store-head .kept .0 ∙ sizes .store-sizes .kept .0 ∙ cleared .clear .kept .0 ∙ fits .size)
+          (ap contentsOf written ∙ fresh-room _ _ _ (fits .size) (sizes .store-sizes .ensures .1) (head .store-head .ensures .1)),
+    )
 
 pub make-spec : {M : Type 1} → statement M
 make-spec =

@@ -1,9 +1,9 @@
--- `cases::text::split`, by a loop from the word's end down: `last` stays within the words, and counts down.
+-- `case_text::text::split`, by a loop from the word's end down: `last` stays within the words, and counts down.
 use Prim.Native.Nat.{_≤_}
 use lib.ListN.{length}
 use borrow.Author.Needs.{needs}
-use Rattle.cases.proofs.text.split.Statement.{statement}
-use Rattle.cases.proofs.text.split.Tie as tie
+use Rattle.case_text.proofs.text.split.Statement.{statement}
+use Rattle.case_text.proofs.text.split.Tie as tie
 
 abbrev Inv-loop : tie.InvT-loop
 Inv-loop words last₀ last = last ≤ length words

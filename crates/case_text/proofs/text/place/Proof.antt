@@ -1,9 +1,9 @@
--- `cases::text::place`, by a loop without an invariant: the list's length bounds each word that is looked for, and each turn goes past one.
+-- `case_text::text::place`, by a loop without an invariant: the list's length bounds each word that is looked for, and each turn goes past one.
 use Prim.Native.Nat.{_+_, _-_}
 use lib.ListN.{length}
 use borrow.Author.Needs.{needs}
-use Rattle.cases.proofs.text.place.Statement.{statement}
-use Rattle.cases.proofs.text.place.Tie as tie
+use Rattle.case_text.proofs.text.place.Statement.{statement}
+use Rattle.case_text.proofs.text.place.Tie as tie
 
 abbrev Inv-loop : tie.InvT-loop
 Inv-loop word list place₀ at₀ place at = Unit

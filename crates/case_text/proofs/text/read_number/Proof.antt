@@ -1,9 +1,9 @@
--- `cases::text::read_number`, by a loop that stays within the word. The test before each digit leaves room for it, so that nothing need be kept of the value.
+-- `case_text::text::read_number`, by a loop that stays within the word. The test before each digit leaves room for it, so that nothing need be kept of the value.
 use Prim.Native.Nat.{_-_, _≤_}
 use lib.ListN.{length}
 use borrow.Author.Needs.{needs}
-use Rattle.cases.proofs.text.read_number.Statement.{statement}
-use Rattle.cases.proofs.text.read_number.Tie as tie
+use Rattle.case_text.proofs.text.read_number.Statement.{statement}
+use Rattle.case_text.proofs.text.read_number.Tie as tie
 
 abbrev Inv-loop : tie.InvT-loop
 Inv-loop word value₀ at₀ value at = at ≤ length word

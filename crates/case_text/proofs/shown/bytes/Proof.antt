@@ -1,9 +1,9 @@
--- `cases::shown::bytes`, by a loop that stays within the bytes.
+-- `case_text::shown::bytes`, by a loop that stays within the bytes.
 use Prim.Native.Nat.{_-_, _≤_}
 use lib.ListN.{length}
 use borrow.Author.Needs.{needs}
-use Rattle.cases.proofs.shown.bytes.Statement.{statement}
-use Rattle.cases.proofs.shown.bytes.Tie as tie
+use Rattle.case_text.proofs.shown.bytes.Statement.{statement}
+use Rattle.case_text.proofs.shown.bytes.Tie as tie
 
 abbrev Inv-loop : tie.InvT-loop
 Inv-loop values at₀ at = at ≤ length values

@@ -1,9 +1,9 @@
--- `cases::shown::decimals`, by a loop that stays within the answer: a word is taken only where eight bytes are left.
+-- `case_text::shown::decimals`, by a loop that stays within the answer: a word is taken only where eight bytes are left.
 use Prim.Native.Nat.{_-_, _≤_}
 use lib.ListN.{length}
 use borrow.Author.Needs.{needs}
-use Rattle.cases.proofs.shown.decimals.Statement.{statement}
-use Rattle.cases.proofs.shown.decimals.Tie as tie
+use Rattle.case_text.proofs.shown.decimals.Statement.{statement}
+use Rattle.case_text.proofs.shown.decimals.Tie as tie
 
 abbrev Inv-loop : tie.InvT-loop
 Inv-loop answer at₀ at = at ≤ length answer
