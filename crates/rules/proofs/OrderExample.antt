@@ -1,17 +1,22 @@
 -- Two orders of one run, computed: the airlines' messages change places, the ids granted differ, and the answers and the paired ledgers are equal.
--- The premises of the theorem hold of it, so they can be met.
+-- The premises of the theorem hold of it, so they can be met, and the theorem is applied to it.
 use mathlib.Core.Path.{_≡_, refl, sym, _∙_, subst}
 use mathlib.Core.Logic.{_⊎_, inl, inr}
 use mathlib.Core.Bool.{false}
 use mathlib.Core.List.{List, [], _∷_}
 use Prim.Native.Nat.{ℕ}
+use native.Mathlib.Omega.{arith}
 use lib.IntN.{pos}
-use Rattle.rules.specs.Lists.{first, any, keep}
-use Rattle.rules.specs.RoomAndSoundLedger.{M, Name, order, same, seat, place, Booking, Ledger, holdsPlace, seatIn, fresh}
+use Rattle.rules.specs.Lists.{first, any, keep, All}
+use Rattle.rules.specs.RoomAndSoundLedger.{M, Name, order, same, seat, place, Booking, Ledger, holdsPlace, seatIn, Sound, fresh}
 use Rattle.rules.specs.AnswerNumbers.{Amount, Identifier, done, Insufficient, replyOf}
 use Rattle.rules.specs.AccountRules.{account, ensureRule, limitRule, reserveRule, commitRule, releaseRule, readRule, readReservedRule, put, seated, booked, ended, doneWith, perform, settle, ensure, limit, reserve, commit, release, readRemaining, readReserved, onName, onBooking, operate}
-use Rattle.rules.specs.OrderBetweenAirlines.{liveAtStart, grant, reference, Run, airlineOf, sameWhich, idOf, referenceOf, grantsOf, start, outcomeAt, identifierIn, grantedId, onward, after, withoutIds, AirlineAnswer, answerTo, answersOf, ownOperations, ownAnswers, KeepsOwnOrder, meetsEndOfIds, meets, runMeets, pairedId, insertById, inIdOrder, paired}
+use Rattle.rules.specs.Domain.{IsBytes, AccountOperationFits}
+use Rattle.rules.specs.OrderBetweenAirlines.{liveAtStart, grant, reference, Run, airlineOf, sameWhich, idOf, referenceOf, grantsOf, start, outcomeAt, identifierIn, grantedId, onward, after, withoutIds, AirlineAnswer, answerTo, answersOf, ownOperations, ownAnswers, KeepsOwnOrder, meetsEndOfIds, meets, runMeets, pairedId, insertById, inIdOrder, paired, Agree}
 use Rattle.rules.proofs.Names.{same-or-not}
+use Rattle.rules.proofs.Soundness.{operate-sound}
+use Rattle.rules.proofs.SnapshotSoundness.{fresh-sound}
+use Rattle.rules.proofs.OrderBetweenAirlines.{order-between-airlines}
 
 abbrev A : Name
 A = 65 ∷ []
@@ -132,6 +137,26 @@ rebalanced-to-B = refl
 
 -- ── the theorem's premises hold of them ────────────────────────────────────────────────────────
 
+A-is-bytes : IsBytes A
+A-is-bytes = (omega arith, tt)
+
+B-is-bytes : IsBytes B
+B-is-bytes = (omega arith, tt)
+
+desk-sound : Sound desk
+unfolding desk M
+desk-sound = operate-sound _ prepaid (reserve A (pos 5)) (A-is-bytes, refl)
+  where
+    prepaid : Sound (operate (fresh 4 4) (ensure A (pos 100)) .ledger)
+    prepaid = operate-sound _ (fresh-sound 4 4 (omega arith, omega arith) (omega arith, omega arith)) (ensure A (pos 100)) (A-is-bytes, refl)
+
+evening-fits : All AccountOperationFits evening
+unfolding M
+evening-fits =
+    let a = A-is-bytes in
+    let b = B-is-bytes in
+    ((a, refl), ((a, refl), ((b, refl), ((b, refl), ((a, refl), ((a, refl), (refl, (refl, ((b, refl), (tt, (a, (b, tt))))))))))))
+
 evening-meets-none : runMeets (start desk) evening ≡ false
 unfolding computes
 evening-meets-none = refl
@@ -148,3 +173,8 @@ keeps-own-order a = go (same-or-not a A) (same-or-not a B)
     go (inl p) q = subst (λ b. ownOperations b evening ≡ ownOperations b rebalanced) (sym p) refl
     go (inr p) (inl q) = subst (λ b. ownOperations b evening ≡ ownOperations b rebalanced) (sym q) refl
     go (inr p) (inr q) = rw (p, q)
+
+-- ── and so the theorem's claim ─────────────────────────────────────────────────────────────────
+
+evening-agrees : Agree desk evening rebalanced
+evening-agrees = order-between-airlines desk desk-sound evening rebalanced evening-fits keeps-own-order evening-meets-none rebalanced-meets-none

@@ -184,22 +184,10 @@ answer-keeps L known (judge s) f = known
 answer-keeps L known (migrateTo fence s) f = known
 answer-keeps L known (certify since s) f = known
 
-unsound-stays : (x : Operation) → LentSound (answer unsound x .lent)
-unfolding answer onLent
-unsound-stays (onAccount x) = tt
-unsound-stays takeSnapshot = tt
-unsound-stays certifyLedger = tt
-unsound-stays proveConservation = tt
-unsound-stays (restoreFrom s) = tt
-unsound-stays (recoverFrom s) = tt
-unsound-stays (judge s) = tt
-unsound-stays (migrateTo fence s) = tt
-unsound-stays (certify since s) = tt
-
 -- whatever is asked
 pub answer-sound : (l : Lent) → LentSound l → (x : Operation) → OperationFits x → LentSound (answer l x .lent)
 answer-sound (sound L) known x f = answer-keeps L known x f
-answer-sound unsound known x f = unsound-stays x
+answer-sound unsound known x f = absurd known
 
 -- a fresh ledger is sound where T and R are in range
 pub fresh-sound : (t r : ℕ) → InRange 1 mostNames t → InRange 1 mostReservations r → Sound (fresh t r)

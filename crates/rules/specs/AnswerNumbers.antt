@@ -107,10 +107,10 @@ pub data Lent : Type 0 where
   sound : Ledger → Lent
   unsound : Lent
 
--- what is lent as sound is; every statement about a lent ledger supposes this
+-- a ledger is lent, and it is sound
 abbrev pub LentSound : Lent → Type 0
 LentSound (sound L) = Sound L
-LentSound unsound = Unit {0}
+LentSound unsound = ⊥
 
 pub record Answered : Type 0 where
   pub reply : Reply

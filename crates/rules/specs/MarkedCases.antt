@@ -78,7 +78,7 @@ markedCases =
     -- W12
     ∷ case (restoreFrom fenced ∷ onAccount (reserve Q1 (pos 1)) ∷ []) (granted 99 (M - 1)) M
     ∷ case (restoreFrom fenced ∷ onAccount (reserve Q1 (pos 1)) ∷ onAccount (reserve Q1 (pos 1)) ∷ []) (replyOf (OverflowOfReserve 1)) M
-    ∷ case (restoreFrom fenced ∷ onAccount (reserve Q1 (pos 1)) ∷ takeSnapshot ∷ []) (replyOf AllocatorExhausted) M
+    ∷ case (restoreFrom fenced ∷ onAccount (reserve Q1 (pos 1)) ∷ onAccount (reserve Q1 (pos 1)) ∷ takeSnapshot ∷ []) (replyOf AllocatorExhausted) M
     ∷ []
 
 -- ── what the definitions say to the operations of a case ───────────────────────────────────────
