@@ -16,6 +16,7 @@ use Rattle.rules.specs.SnapshotsMigrationCertificates.{snapshotOf, tooSh
 use Rattle.rules.specs.Frames.{longestSnapshot, replyBytes, characterOf, lineOfBytes, answerLine, longestLine, operationOfLine, answerOr23, answerToLine, lentAfter, lineFeed, pieces, counted, linesOf, answersToLines}
 use Rattle.rules.proofs.Tests.{by-test, by-option}
 use Rattle.rules.proofs.SnapshotSoundness.{answer-sound, fresh-sound}
+use Rattle.rules.proofs.Refusals.{bad-frame}
 use Rattle.rules.proofs.OwnSnapshot.{rows-length, own-names-short}
 use Rattle.rules.proofs.SnapshotBytes.{never-too-short}
 use Rattle.rules.proofs.FrameBytes.{line-fits}
@@ -43,8 +44,8 @@ own-snapshot-has-room L s = never-too-short (snapshotOf L) (omega (arith, rows-l
 
 -- 23 whatever it holds
 pub too-long-line : (l : Lent) (line : List ℕ) → longestLine < length line → answerToLine l line ≡ answered (replyOf BadFrame) l
-unfolding answerToLine operationOfLine
-too-long-line l line h = rw (lt-ltb longestLine (length line) h)
+unfolding operationOfLine
+too-long-line l line h = bad-frame l line (rw (lt-ltb longestLine (length line) h))
 
 -- ── one answer line each ───────────────────────────────────────────────────────────────────────
 

@@ -7,13 +7,14 @@ pub mod Bookings
 pub mod Delta
 pub mod SoundByName
 pub mod Soundness
-pub mod Refusals
 pub mod Checks
 pub mod SnapshotSoundness
+pub mod Decided
 pub mod OwnSnapshot
 pub mod Reading
 pub mod SnapshotBytes
 pub mod FrameBytes
+pub mod Refusals
 pub mod EveryLine
 pub mod MarkedCases
 pub mod FurtherCases

@@ -1,22 +1,26 @@
--- Every answer is done or one of the table's refusals; a refusal changes nothing, save the two marked rows: 6 with a cost above 0 draws an id,
--- and 15 from a conservation proof has taken its snapshot. Move by move, and rule by rule only to see that no other than a reserve loses an id.
-use mathlib.Core.Path.{_≡_, refl}
-use mathlib.Core.Bool.{Bool, _&&_}
+-- Every answer on a sound ledger is done or a row of the table before 23, leaves a sound ledger, and moves just what its row says; 24 is given exactly
+-- where no sound ledger is lent to an operation that takes one, and 23 exactly to a line that holds no operation. What was decided (Decided) is read in
+-- the table's words; that the ledger stays sound is SnapshotSoundness.
+use mathlib.Core.Path.{_≡_, refl, sym, _∙_, ap}
+use mathlib.Core.Logic.{_⊎_, inl, inr, _≢_, _↔_}
+use mathlib.Core.Bool.{true, false}
 use mathlib.Core.List.{List, []}
-use mathlib.Core.Option.{Option, none, some}
-use Prim.Native.Nat.{ℕ, zero, suc, _+_}
+use mathlib.Core.Option.{none, some}
+use Prim.Native.Nat.{ℕ, suc, _<_}
 use native.Mathlib.Omega.{arith}
-use lib.Dec.{ltb}
-use lib.IntN.{ℤ, pos, negsuc}
-use lib.ListN.{length}
-use Rattle.rules.specs.RoomAndSoundLedger.{M, Name, Account, Booking, Ledger, committedTotal, InRange}
-use Rattle.rules.specs.AnswerNumbers.{Reply, Refusal, NegativeAmount, InvalidAmount, MissingTenant, OverflowOfReserve, OverflowOfCommit, OverflowOfTopUp, ExposureLimitExceeded, Insufficient, MissingReservation, Overrun, AllocatorExhausted, ActiveReservations, DuplicateTenant, GhostReservation, NegativeLedgerField, ConservationViolation, AggregateOverflow, AlreadyRecoveryAware, InvalidAllocatorFence, LegacySnapshotRequiresMigration, NameTooLong, NamesFull, ReservationsFull, OutputTooShort, BadFrame, UnsoundLedger, replyOf, Outcome, sound, Answered, answered, onLent}
-use Rattle.rules.specs.AccountRules.{Move, refuse, tell, write, lose, book, Settlement, leave, end, ensureRule, topUpRule, limitRule, reserveRule, commitRule, releaseRule, readRule, readReservedRule, hasRoom, booked, perform, settle, AccountOperation, ensure, topUp, limit, reserve, commit, release, readRemaining, readInitial, readCommitted, readReserved, isTooLong, named, onName, onBooking, nextIdIsM, operate}
-use Rattle.rules.specs.SnapshotsMigrationCertificates.{snapshotOf, takingSnapshot, tooShortFor, handedOut, snapshot, orElse, restore, recoveryRestore, replyOr, migrate, status, totalsFit, certificate, certificateOfSnapshot, certificateOfLedger, conservationProof}
-use Rattle.rules.specs.Frames.{Operation, onAccount, takeSnapshot, certifyLedger, proveConservation, restoreFrom, recoverFrom, judge, migrateTo, certify, answer, operationOfLine, answerToLine}
-use Rattle.rules.specs.Refusals.{MayAnswer, accepted, changed-nothing, drew-an-id, took-a-snapshot}
+use lib.IntN.{pos}
+use Rattle.rules.specs.RoomAndSoundLedger.{Name, Ledger, InRange, Sound, fresh}
+use Rattle.rules.specs.AnswerNumbers.{Refusal, NegativeAmount, InvalidAmount, MissingTenant, OverflowOfReserve, OverflowOfCommit, OverflowOfTopUp, ExposureLimitExceeded, Insufficient, MissingReservation, Overrun, AllocatorExhausted, ActiveReservations, DuplicateTenant, GhostReservation, NegativeLedgerField, ConservationViolation, AggregateOverflow, AlreadyRecoveryAware, InvalidAllocatorFence, LegacySnapshotRequiresMigration, NameTooLong, NamesFull, ReservationsFull, OutputTooShort, BadFrame, UnsoundLedger, replyOf, Lent, sound, unsound, Answered, answered, onLent}
+use Rattle.rules.specs.AccountRules.{drawn, reserve}
+use Rattle.rules.specs.SnapshotsMigrationCertificates.{afterSnapshot, handedOut}
+use Rattle.rules.specs.Frames.{Operation, onAccount, takeSnapshot, certifyLedger, proveConservation, restoreFrom, recoverFrom, judge, migrateTo, certify, answer, operationOfLine, answerOr23, answerToLine}
+use Rattle.rules.specs.Refusals.{Marked, with-cost, from-proof, AnswerOf, takesLedger}
+use Rattle.rules.specs.Domain.{OperationFits}
 use Rattle.rules.specs.OrderBetweenAirlines.{identifierIn, grantedId}
-use Rattle.rules.proofs.Tests.{by-test}
+use Rattle.rules.proofs.Tests.{by-bool, by-option, true-false}
+use Rattle.rules.proofs.SnapshotSoundness.{answer-sound}
+use Rattle.rules.proofs.FrameBytes.{line-fits}
+use Rattle.rules.proofs.Decided.{Decided, accepted, refused-plainly, lost-an-id, proof-overflowed, decided}
 
 -- the table's rows: no refusal is taken for done, grants an id or hands out a snapshot
 refusal-row : (e : Refusal) → InRange 1 24 (replyOf e .number) × (grantedId (replyOf e .carried) ≡ none) × (handedOut (replyOf e .carried) ≡ [])
@@ -58,128 +62,125 @@ module _ (e : Refusal) where
   pub refusal-hands-out-nothing : handedOut (replyOf e .carried) ≡ []
   refusal-hands-out-nothing = refusal-row e .2
 
-abbrev asAnswered : Outcome → Answered
-asAnswered o = answered (o .reply) (sound (o .ledger))
+-- ── the table's words ──────────────────────────────────────────────────────────────────────────
 
-module _ (L : Ledger) where
-  -- ── account operations ───────────────────────────────────────────────────────────────────────
+module _ (L : Ledger) (x : Operation) (r : Answered) where
+  before-23 : Decided L x r → r .reply .number < 23
+  before-23 (accepted n) = omega arith
+  before-23 (refused-plainly e p q l) = rw q (p .before-23)
+  before-23 (lost-an-id e costs six q l) = rw (q, six) (omega arith)
+  before-23 (proof-overflowed f q l) = rw q (omega arith)
 
-  -- a move may lose an id only as the reserve of a positive cost does
-  abbrev Loses : Operation → Move → Type 0
-  Loses x (refuse e) = Unit {0}
-  Loses x (tell zs) = Unit {0}
-  Loses x (write zs s) = Unit {0}
-  Loses x (lose e) = (a : Name) × (cost : ℕ) × (remaining : ℕ) × (x ≡ onAccount (reserve a (pos (suc cost)))) × (e ≡ Insufficient remaining (pos (suc cost)))
-  Loses x (book remaining s cost) = Unit {0}
+  row : Decided L x r → (r .reply .number ≡ 0) ⊎ ((e : Refusal) × (r .reply ≡ replyOf e))
+  row (accepted n) = inl n
+  row (refused-plainly e p q l) = inr (e, q)
+  row (lost-an-id e costs six q l) = inr (e, q)
+  row (proof-overflowed f q l) = inr (AggregateOverflow, q)
 
-  perform-answers : (x : Operation) (a : Name) (m : Move) → Loses x m → MayAnswer L x (asAnswered (perform L a m))
-  unfolding perform
-  perform-answers x a (refuse e) h = changed-nothing e refl refl
-  perform-answers x a (tell zs) h = accepted refl
-  perform-answers x a (write zs s) h = by-test (λ o. MayAnswer L x (asAnswered o)) (hasRoom a s L) (λ _. accepted refl) (λ _. changed-nothing NamesFull refl refl)
-  perform-answers x a (lose e) h = drew-an-id (h .0) (h .1) (h .2) (h .3) (rw (h .4)) refl
-  perform-answers x a (book remaining s cost) h = by-test (λ o. MayAnswer L x (asAnswered o)) (ltb (length (L .bookings)) (L .R)) (λ _. accepted refl) (λ _. changed-nothing ReservationsFull refl refl)
+  draws-an-id : Decided L x r → (a : Name) (cost : ℕ) → x ≡ onAccount (reserve a (pos (suc cost))) → r .reply .number ≡ 6 → r .lent ≡ sound (drawn L)
+  draws-an-id (accepted n) a cost f six = absurd (omega arith)
+  draws-an-id (refused-plainly e p q l) a cost f six = absurd (p .unmarked (with-cost a cost f (sym (ap (λ r. r .number) q) ∙ six)))
+  draws-an-id (lost-an-id e costs n q l) a cost f six = l
+  draws-an-id (proof-overflowed g q l) a cost f six = absurd (omega (arith, ap (λ r. r .number) q))
 
-  named-answers : (x : Operation) (a : Name) (m : Move) → Loses x m → MayAnswer L x (asAnswered (perform L a (named a m)))
-  named-answers x a m h = by-test (λ (m : Move). MayAnswer L x (asAnswered (perform L a m))) (isTooLong a) (λ _. perform-answers x a (refuse NameTooLong) tt) (λ _. perform-answers x a m h)
+  takes-a-snapshot : Decided L x r → x ≡ proveConservation → r .reply .number ≡ 15 → r .lent ≡ sound (afterSnapshot L)
+  takes-a-snapshot (accepted n) f fifteen = absurd (omega arith)
+  takes-a-snapshot (refused-plainly e p q l) f fifteen = absurd (p .unmarked (from-proof f (sym (ap (λ r. r .number) q) ∙ fifteen)))
+  takes-a-snapshot (lost-an-id e costs n q l) f fifteen = absurd (omega (arith, n, ap (λ r. r .number) q))
+  takes-a-snapshot (proof-overflowed g q l) f fifteen = l
 
-  settle-answers : (x : Operation) (o : Option Booking) (t : Settlement) → MayAnswer L x (asAnswered (settle L o t))
-  unfolding settle
-  settle-answers x o (leave e) = changed-nothing e refl refl
-  settle-answers x none (end zs s) = changed-nothing MissingReservation refl refl
-  settle-answers x (some b) (end zs s) = accepted refl
+  changes-nothing : Decided L x r → r .reply .number ≢ 0 → ¬ Marked x (r .reply .number) → r .lent ≡ sound L
+  changes-nothing (accepted n) not-done unmarked = absurd (not-done n)
+  changes-nothing (refused-plainly e p q l) not-done unmarked = l
+  changes-nothing (lost-an-id e (a, cost, f) six q l) not-done unmarked = absurd (unmarked (with-cost a cost f (ap (λ r. r .number) q ∙ six)))
+  changes-nothing (proof-overflowed f q l) not-done unmarked = absurd (unmarked (from-proof f (ap (λ r. r .number) q)))
 
-  on-booking-answers : (x : Operation) (o : Option Booking) (rule : Option ℕ → Option Account → ℕ → Settlement) → MayAnswer L x (asAnswered (onBooking L o rule))
-  unfolding onBooking
-  on-booking-answers x none rule = settle-answers x none _
-  on-booking-answers x (some b) rule = settle-answers x (some b) _
+pub every-answer : (L : Ledger) → Sound L → (x : Operation) → OperationFits x → AnswerOf L x (answer (sound L) x)
+every-answer L known x fits =
+    let r = answer (sound L) x in
+    let d = decided L x in
+    record {
+      row = row L x r d;
+      before-23 = before-23 L x r d;
+      stays-sound = answer-sound (sound L) known x fits;
+      draws-an-id = draws-an-id L x r d;
+      takes-a-snapshot = takes-a-snapshot L x r d;
+      changes-nothing = changes-nothing L x r d;
+    }
 
-  ensure-loses : (x : Operation) (z : ℤ) (c : Option Account) (l : ℕ) → Loses x (ensureRule z c l)
-  unfolding ensureRule
-  ensure-loses x (negsuc n) c l = tt
-  ensure-loses x (pos n) none l = tt
-  ensure-loses x (pos n) (some c) l = tt
+-- what holds no operation is answered 23, and leaves what is lent
+pub bad-frame : (l : Lent) (line : List ℕ) → operationOfLine line ≡ none → answerToLine l line ≡ answered (replyOf BadFrame) l
+unfolding answerToLine
+bad-frame l line e = rw e
 
-  top-up-loses : (x : Operation) (z : ℤ) (c : Option Account) (l : ℕ) → Loses x (topUpRule z c l)
-  unfolding topUpRule
-  top-up-loses x (negsuc n) c l = tt
-  top-up-loses x (pos zero) c l = tt
-  top-up-loses x (pos (suc n)) none l = tt
-  top-up-loses x (pos (suc n)) (some c) l = by-test (Loses x) (ltb M (c .initial + suc n)) (λ _. tt) (λ _. tt)
+-- A line of any characters: 23 and nothing changed, or the answer of the operation that it holds
+pub every-line : (L : Ledger) → Sound L → (line : List ℕ) → (operationOfLine line ≡ none → answerToLine (sound L) line ≡ answered (replyOf BadFrame) (sound L))
+    × ((x : Operation) → operationOfLine line ≡ some x → AnswerOf L x (answerToLine (sound L) line))
+unfolding answerToLine
+every-line L known line = (bad-frame (sound L) line, λ x e. rw e (every-answer L known x (line-fits line x e)))
 
-  limit-loses : (x : Operation) (z : ℤ) (c : Option Account) (l : ℕ) → Loses x (limitRule z c l)
-  unfolding limitRule
-  limit-loses x (negsuc n) c l = tt
-  limit-loses x (pos n) c l = tt
+-- ── 24 and 23 ──────────────────────────────────────────────────────────────────────────────────
 
-  read-loses : (x : Operation) (of : Account → ℕ) (c : Option Account) (l : ℕ) → Loses x (readRule of c l)
-  unfolding readRule
-  read-loses x of none l = tt
-  read-loses x of (some c) l = tt
+-- an operation that takes no ledger is answered alike whatever is lent, and leaves it
+pub takes-none : (l m : Lent) (x : Operation) → takesLedger x ≡ false → answer l x ≡ answered (answer m x .reply) l
+unfolding answer
+takes-none l m (onAccount x) e = true-false refl e
+takes-none l m takeSnapshot e = true-false refl e
+takes-none l m certifyLedger e = true-false refl e
+takes-none l m proveConservation e = true-false refl e
+takes-none l m (restoreFrom s) e = true-false refl e
+takes-none l m (recoverFrom s) e = true-false refl e
+takes-none l m (judge s) e = refl
+takes-none l m (migrateTo fence s) e = refl
+takes-none l m (certify since s) e = refl
 
-  read-reserved-loses : (x : Operation) (c : Option Account) (l : ℕ) → Loses x (readReservedRule c l)
-  unfolding readReservedRule
-  read-reserved-loses x none l = tt
-  read-reserved-loses x (some c) l = tt
+-- any other is refused where no sound ledger is lent, and leaves what is lent
+pub unsound-refused : (x : Operation) → takesLedger x ≡ true → answer unsound x ≡ answered (replyOf UnsoundLedger) unsound
+unfolding answer onLent
+unsound-refused (onAccount x) e = refl
+unsound-refused takeSnapshot e = refl
+unsound-refused certifyLedger e = refl
+unsound-refused proveConservation e = refl
+unsound-refused (restoreFrom s) e = refl
+unsound-refused (recoverFrom s) e = refl
+unsound-refused (judge s) e = true-false e refl
+unsound-refused (migrateTo fence s) e = true-false e refl
+unsound-refused (certify since s) e = true-false e refl
 
-  reserve-loses : (a : Name) (z : ℤ) (last : Bool) (c : Option Account) (l : ℕ) → Loses (onAccount (reserve a z)) (reserveRule z last c l)
-  unfolding reserveRule
-  reserve-loses a (negsuc n) last c l = tt
-  reserve-loses a (pos zero) last c l = tt
-  reserve-loses a (pos (suc n)) last none l = tt
-  reserve-loses a (pos (suc n)) last (some c) l =
-      by-test (Loses x) (ltb M (c .reserved + suc n)) (λ _. tt)
-      (λ _. by-test (Loses x) (ltb 0 l && ltb l (c .reserved + suc n)) (λ _. tt)
-      (λ _. by-test (Loses x) last (λ _. tt) (λ _. by-test (Loses x) (ltb (c .remaining) (suc n)) (λ _. (a, n, c .remaining, refl, refl)) (λ _. tt))))
-    where
-      x : Operation
-      x = onAccount (reserve a (pos (suc n)))
+data Numbered (l : Lent) (x : Operation) : Type 0 where
+  in-the-table : answer l x .reply .number < 23 → Numbered l x
+  twenty-four : l ≡ unsound → takesLedger x ≡ true → answer l x .reply .number ≡ 24 → Numbered l x
 
-  account-answers : (x : AccountOperation ℕ) → MayAnswer L (onAccount x) (asAnswered (operate L x))
-  unfolding operate onName
-  account-answers (ensure a z) = named-answers _ a _ (ensure-loses _ z _ _)
-  account-answers (topUp a z) = named-answers _ a _ (top-up-loses _ z _ _)
-  account-answers (limit a z) = named-answers _ a _ (limit-loses _ z _ _)
-  account-answers (reserve a z) = named-answers _ a _ (reserve-loses a z _ _ _)
-  account-answers (commit i z) = on-booking-answers _ (booked i (L .bookings)) (commitRule z)
-  account-answers (release i) = on-booking-answers _ (booked i (L .bookings)) releaseRule
-  account-answers (readRemaining a) = named-answers _ a _ (read-loses _ _ _ _)
-  account-answers (readInitial a) = named-answers _ a _ (read-loses _ _ _ _)
-  account-answers (readCommitted a) = named-answers _ a _ (read-loses _ _ _ _)
-  account-answers (readReserved a) = named-answers _ a _ (read-reserved-loses _ _ _)
+numbered : (l : Lent) (x : Operation) → Numbered l x
+numbered (sound L) x = in-the-table (before-23 L x _ (decided L x))
+numbered unsound x = by-bool (λ b. takesLedger x ≡ b → Numbered unsound x) (takesLedger x)
+    (λ _ e. twenty-four refl e (ap (λ r. r .reply .number) (unsound-refused x e)))
+    (λ _ e. in-the-table (rw (ap (λ r. r .reply .number) (takes-none unsound (sound (fresh 1 1)) x e)) (before-23 _ x _ (decided (fresh 1 1) x))))
+    refl
 
-  -- ── snapshots and what goes with them ────────────────────────────────────────────────────────
+-- where a ledger is lent, 24 exactly when it is not sound
+pub exactly-24 : (l : Lent) (x : Operation) → (answer l x .reply .number ≡ 24) ↔ ((l ≡ unsound) × (takesLedger x ≡ true))
+exactly-24 l x = (go (numbered l x), λ (e, f). rw e (ap (λ r. r .reply .number) (unsound-refused x f)))
+  where
+    go : Numbered l x → answer l x .reply .number ≡ 24 → (l ≡ unsound) × (takesLedger x ≡ true)
+    go (in-the-table n) q = absurd (omega arith)
+    go (twenty-four e f n) q = (e, f)
 
-  taking-answers : (x : Operation) (o : Outcome) → MayAnswer L x (asAnswered o) → MayAnswer L x (asAnswered (takingSnapshot L o))
-  unfolding takingSnapshot
-  taking-answers x o h = by-test (λ o. MayAnswer L x (asAnswered o)) (nextIdIsM L) (λ _. changed-nothing AllocatorExhausted refl refl) (λ _. h)
+not-23 : (l : Lent) (x : Operation) → Numbered l x → answer l x .reply .number ≢ 23
+not-23 l x (in-the-table n) q = absurd (omega arith)
+not-23 l x (twenty-four e f n) q = absurd (omega arith)
 
-  restore-answers : (x : Operation) (o : Option Refusal) (after : Ledger) → MayAnswer L x (asAnswered (orElse o L after))
-  unfolding orElse
-  restore-answers x none after = accepted refl
-  restore-answers x (some e) after = changed-nothing e refl refl
+-- 23 exactly when no operation is read, whatever is lent
+pub exactly-23 : (l : Lent) (line : List ℕ) → (answerToLine l line .reply .number ≡ 23) ↔ (operationOfLine line ≡ none)
+unfolding answerToLine
+exactly-23 l line = (by-option (λ o. answerOr23 l o .reply .number ≡ 23 → o ≡ none) (operationOfLine line) (λ _ _. refl) (λ x _ q. absurd (not-23 l x (numbered l x) q)), λ e. rw e refl)
 
-  reply-answers : (x : Operation) (o : Option Refusal) (r : Reply) → r .number ≡ 0 → MayAnswer L x (answered (replyOr o r) (sound L))
-  unfolding replyOr
-  reply-answers x none r h = accepted h
-  reply-answers x (some e) r h = changed-nothing e refl refl
-
-  pub every-answer : (x : Operation) → MayAnswer L x (answer (sound L) x)
-  unfolding answer onLent snapshot restore recoveryRestore certificateOfLedger certificate conservationProof migrate status certificateOfSnapshot
-  every-answer (onAccount x) = account-answers x
-  every-answer takeSnapshot = taking-answers _ _ (by-test (λ o. MayAnswer L takeSnapshot (asAnswered o)) (tooShortFor _ (snapshotOf L)) (λ _. changed-nothing OutputTooShort refl refl) (λ _. accepted refl))
-  every-answer (restoreFrom s) = restore-answers _ _ _
-  every-answer (recoverFrom s) = restore-answers _ _ _
-  every-answer certifyLedger = taking-answers _ _
-      (by-test (λ o. MayAnswer L certifyLedger (asAnswered o)) (totalsFit (snapshotOf L .rows) && ltb (L .baseline) (committedTotal (L .places))) (λ _. accepted refl) (λ _. accepted refl))
-  every-answer proveConservation = taking-answers _ _
-      (by-test (λ o. MayAnswer L proveConservation (asAnswered o)) (totalsFit (snapshotOf L .rows)) (λ _. accepted refl) (λ _. took-a-snapshot refl refl refl))
-  every-answer (migrateTo fence s) = reply-answers _ _ _ refl
-  every-answer (certify since s) = reply-answers _ _ _ refl
-  every-answer (judge s) = reply-answers _ _ _ refl
-
-  -- A line of any characters: 23 and nothing changed, or the answer of the operation that it holds
-  pub every-line : (line : List ℕ) → (operationOfLine line ≡ none → answerToLine (sound L) line ≡ answered (replyOf BadFrame) (sound L))
-      × ((x : Operation) → operationOfLine line ≡ some x → MayAnswer L x (answerToLine (sound L) line))
-  unfolding answerToLine
-  every-line line = (λ e. rw e, λ x e. rw e (every-answer x))
+-- .. and 24 exactly when an operation is read that takes a ledger, and no sound one is lent
+pub exactly-24-of-line : (l : Lent) (line : List ℕ) → (answerToLine l line .reply .number ≡ 24) ↔ ((l ≡ unsound) × ((x : Operation) × (operationOfLine line ≡ some x) × (takesLedger x ≡ true)))
+unfolding answerToLine
+exactly-24-of-line l line = (
+  by-option (λ o. answerOr23 l o .reply .number ≡ 24 → (l ≡ unsound) × ((x : Operation) × (o ≡ some x) × (takesLedger x ≡ true))) (operationOfLine line)
+      (λ _ q. absurd (omega arith))
+      (λ x _ q. let (e, f) = exactly-24 l x .0 q in (e, (x, refl, f))),
+  λ (e, (x, f, t)). rw f (exactly-24 l x .1 (e, t)),
+)
