@@ -10,7 +10,7 @@ ghost use mathlib.Core.Path.{_≡_};
 ghost use lib.ListN.{length};
 ghost use Rattle.rules.specs.SnapshotsMigrationCertificates.{snapshotOfBytes, snapshot, restore, recoveryRestore, migrate, status, certificateOfSnapshot, certificateOfLedger, conservationProof, outputAfter};
 ghost use Rattle.room.specs.Room.{Answers};
-ghost use Rattle.validation.specs.Judgement.{judgedReply, HasShortName};
+ghost use Rattle.validation.specs.Judgement.{judgedReply, InStoredForm};
 ghost use Rattle.snapshot_writer.specs.Output.{snapshotReply, SizeWithin};
 ghost use Rattle.migration.specs.Migrated.{migratedReply};
 ghost use Rattle.certificates.specs.Certified.{certifiedReply, provedReply};
@@ -44,7 +44,7 @@ fn first_check(room: &[u8], bytes: &[u8]) -> Verdict
 // One pass over the bytes to read them, three to judge them, in one of which each name is compared with those before it, and one to put the rows.
 pub fn restore(room: &mut [u8], bytes: &[u8]) -> Judged
     ensures answers { λ r. ⌜ AnswersSnapshot restore (snapshotOfBytes (now (bytes .entry))) (now (room .entry)) (judgedReply r) (now (room .exit)) ⌝ }
-    ensures short { λ r. ⌜ HasShortName r ⌝ }
+    ensures form { λ r. ⌜ InStoredForm r ⌝ }
 {
     let first = first_check(room, bytes);
     let Verdict::Done = first else {
@@ -56,7 +56,7 @@ pub fn restore(room: &mut [u8], bytes: &[u8]) -> Judged
 // As a restore.
 pub fn recovery_restore(room: &mut [u8], bytes: &[u8]) -> Judged
     ensures answers { λ r. ⌜ AnswersSnapshot recoveryRestore (snapshotOfBytes (now (bytes .entry))) (now (room .entry)) (judgedReply r) (now (room .exit)) ⌝ }
-    ensures short { λ r. ⌜ HasShortName r ⌝ }
+    ensures form { λ r. ⌜ InStoredForm r ⌝ }
 {
     let first = first_check(room, bytes);
     let Verdict::Done = first else {
@@ -71,7 +71,7 @@ pub fn migrate(bytes: &[u8], fence: u64, output: &mut [u8]) -> Judged
         migratedReply (length (now (bytes .entry))) (now (output .exit)) r
         ≡ onSupplied (migrate (length (now (output .entry))) fence) (snapshotOfBytes (now (bytes .entry))) ⌝ }
     ensures output { λ r. ⌜ now (output .exit) ≡ outputAfter (migratedReply (length (now (bytes .entry))) (now (output .exit)) r) (now (output .entry)) ⌝ }
-    ensures short { λ r. ⌜ HasShortName r ⌝ }
+    ensures form { λ r. ⌜ InStoredForm r ⌝ }
 {
     if !snapshot_reader::is_snapshot(bytes) {
         return validation::nameless(Verdict::BadFrame);
@@ -82,7 +82,7 @@ pub fn migrate(bytes: &[u8], fence: u64, output: &mut [u8]) -> Judged
 // Whether a supplied snapshot balances: three passes over the bytes.
 pub fn status(bytes: &[u8]) -> Judged
     ensures answer { λ r. ⌜ judgedReply r ≡ onSupplied status (snapshotOfBytes (now (bytes .entry))) ⌝ }
-    ensures short { λ r. ⌜ HasShortName r ⌝ }
+    ensures form { λ r. ⌜ InStoredForm r ⌝ }
 {
     if !snapshot_reader::is_snapshot(bytes) {
         return validation::nameless(Verdict::BadFrame);

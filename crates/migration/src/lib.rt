@@ -10,7 +10,7 @@ ghost use lib.ListN.{length, drop};
 ghost use Rattle.rules.specs.RoomAndSoundLedger.{M};
 ghost use Rattle.rules.specs.SnapshotsMigrationCertificates.{bytesOf, replyOr, migrate, outputAfter};
 ghost use Rattle.snapshot_reader.specs.Standing.{IsSnapshot, OfSnapshot};
-ghost use Rattle.validation.specs.Judgement.{refusalIn, HasShortName};
+ghost use Rattle.validation.specs.Judgement.{refusalIn, InStoredForm};
 ghost use Rattle.migration.specs.Migrated.{migratedTo, migratedReply};
 
 // 19; 16 of a version that has the tag already; 17 of a fence that no version could carry; then the validation, and 22 last.
@@ -18,7 +18,7 @@ fn refusal(bytes: &[u8], fence: u64, size: usize) -> Judged
     requires { ⌜ IsSnapshot (now bytes) ⌝ }
     ensures answer { λ r. ⌜ OfSnapshot (now (bytes .entry)) (λ s. replyOr (refusalIn r) (migratedTo fence s) ≡ migrate size fence s) ⌝ }
     ensures room { λ r. ⌜ (refusalIn r ≡ none → (fence ≤ M) × (length (now (bytes .entry)) ≤ size)) ⌝ }
-    ensures short { λ r. ⌜ HasShortName r ⌝ }
+    ensures form { λ r. ⌜ InStoredForm r ⌝ }
 {
     if snapshot_reader::has_long_name(bytes) {
         return validation::nameless(Verdict::NameTooLong);
@@ -62,7 +62,7 @@ pub fn migrate(bytes: &[u8], fence: u64, output: &mut [u8]) -> Judged
         OfSnapshot (now (bytes .entry))
         (λ s. migratedReply (length (now (bytes .entry))) (now (output .exit)) r ≡ migrate (length (now (output .entry))) fence s) ⌝ }
     ensures output { λ r. ⌜ now (output .exit) ≡ outputAfter (migratedReply (length (now (bytes .entry))) (now (output .exit)) r) (now (output .entry)) ⌝ }
-    ensures short { λ r. ⌜ HasShortName r ⌝ }
+    ensures form { λ r. ⌜ InStoredForm r ⌝ }
 {
     let judged = refusal(bytes, fence, output.len());
     let verdict = judged.verdict;

@@ -6,7 +6,7 @@ ghost use mathlib.Core.Path.{_≡_};
 ghost use mathlib.Core.List.{[]};
 ghost use Rattle.rules.specs.SnapshotsMigrationCertificates.{restoreVersion, recoveryVersion, restoreRefusal, restore, recoveryRestore};
 ghost use Rattle.snapshot_reader.specs.Standing.{IsSnapshot, OfSnapshot};
-ghost use Rattle.validation.specs.Judgement.{refusalOf, refusalIn, judgedReply, HasShortName};
+ghost use Rattle.validation.specs.Judgement.{refusalOf, refusalIn, judgedReply, InStoredForm};
 ghost use Rattle.room.specs.Room.{SoundRoom};
 ghost use Rattle.restoring.specs.Forms.{restoreBy, Restores, Keeps};
 
@@ -40,7 +40,7 @@ fn recovery_version(version: u64) -> Verdict
 fn refusal(names: u64, bytes: &[u8], of_version: Verdict) -> Judged
     requires { ⌜ IsSnapshot (now bytes) ⌝ }
     ensures refusal { λ r. ⌜ OfSnapshot (now (bytes .entry)) (λ s. refusalIn r ≡ restoreRefusal (refusalOf [] «of_version») names s) ⌝ }
-    ensures short { λ r. ⌜ HasShortName r ⌝ }
+    ensures form { λ r. ⌜ InStoredForm r ⌝ }
 {
     if snapshot_reader::has_long_name(bytes) {
         return validation::nameless(Verdict::NameTooLong);
@@ -63,7 +63,7 @@ fn refusal(names: u64, bytes: &[u8], of_version: Verdict) -> Judged
 fn restore_by(room: &mut [u8], bytes: &[u8], of_version: Verdict) -> Judged
     requires { ⌜ SoundRoom (now room) × IsSnapshot (now bytes) × Keeps (now bytes) (refusalOf [] «of_version») ⌝ }
     ensures performs { λ r. ⌜ Restores (restoreBy (refusalOf [] «of_version»)) (now (bytes .entry)) (now (room .entry)) (judgedReply r) (now (room .exit)) ⌝ }
-    ensures short { λ r. ⌜ HasShortName r ⌝ }
+    ensures form { λ r. ⌜ InStoredForm r ⌝ }
 {
     let sizes = records::load_sizes(room);
     let judged = refusal(sizes.names, bytes, of_version);
@@ -78,7 +78,7 @@ fn restore_by(room: &mut [u8], bytes: &[u8], of_version: Verdict) -> Judged
 pub fn restore(room: &mut [u8], bytes: &[u8]) -> Judged
     requires { ⌜ SoundRoom (now room) × IsSnapshot (now bytes) ⌝ }
     ensures performs { λ r. ⌜ Restores restore (now (bytes .entry)) (now (room .entry)) (judgedReply r) (now (room .exit)) ⌝ }
-    ensures short { λ r. ⌜ HasShortName r ⌝ }
+    ensures form { λ r. ⌜ InStoredForm r ⌝ }
 {
     restore_by(
         room,
@@ -90,7 +90,7 @@ pub fn restore(room: &mut [u8], bytes: &[u8]) -> Judged
 pub fn recovery_restore(room: &mut [u8], bytes: &[u8]) -> Judged
     requires { ⌜ SoundRoom (now room) × IsSnapshot (now bytes) ⌝ }
     ensures performs { λ r. ⌜ Restores recoveryRestore (now (bytes .entry)) (now (room .entry)) (judgedReply r) (now (room .exit)) ⌝ }
-    ensures short { λ r. ⌜ HasShortName r ⌝ }
+    ensures form { λ r. ⌜ InStoredForm r ⌝ }
 {
     restore_by(
         room,

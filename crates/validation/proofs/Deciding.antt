@@ -1,11 +1,10 @@
 -- Checks in their order, as code asks them: one that fails decides, and one that passes leaves what stands after it.
-use mathlib.Core.Path.{_≡_, refl, sym, ap, subst, _∙_}
+use mathlib.Core.Path.{_≡_, refl, sym, ap, _∙_}
 use mathlib.Core.Logic.{_≢_}
 use mathlib.Core.Bool.{Bool, true, false}
 use mathlib.Core.List.{List, [], _∷_}
 use mathlib.Core.Option.{Option, none, some}
 use Prim.Native.Nat.{ℕ, _^_, _<_}
-use native.Mathlib.Omega.{arith}
 use borrow.Author.Tests.{eq-eqb}
 use denote.Enum.Declared.{tagOf, declared}
 use lib.IntN.{ℤ, pos, negsuc}
@@ -19,8 +18,7 @@ use Rattle.rules.proofs.Checks.{equals-true}
 use Rattle.numbers.proofs.Amounts.{held, held-is}
 use Rattle.validation.specs.declared.Verdict.{Verdict}
 use Rattle.validation.specs.declared.Verdict.the-variants as verdict
-use Rattle.validation.specs.declared.Judged.{Judged}
-use Rattle.validation.specs.Judgement.{refusalOf, HasShortName, nameless}
+use Rattle.validation.specs.Judgement.{refusalOf}
 use Rattle.validation.proofs.Verdict.{enum}
 
 module _ (fails : Bool) (refusal : Refusal) (later : Option Refusal) where
@@ -77,7 +75,3 @@ refusal-given a v h e = none-some (sym e ∙ refuses a v (some NameTooLong) h �
 pub passes-on : (a : Name) (v : Verdict) (later : Option Refusal) → v ≡ verdict.Done → andThen (refusalOf a v) later ≡ later
 unfolding andThen
 passes-on a v later e = ap (λ u. andThen (refusalOf a u) later) e
-
--- a verdict that is of no row has the empty name
-pub nameless-short : {j : Judged} {v : Verdict} → j ≡ nameless v → HasShortName j
-nameless-short e = subst HasShortName (sym e) (omega arith)

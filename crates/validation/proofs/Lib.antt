@@ -1,4 +1,5 @@
 pub mod Deciding
+pub mod StoredForm
 pub mod Balancing
 pub mod Validating
 pub mod Seen

@@ -7,8 +7,6 @@ use lib.ListN.{length}
 use Rattle.rules.specs.AnswerNumbers.{Refusal}
 use Rattle.rules.specs.SnapshotsMigrationCertificates.{Row, andThen, rowConservation, conservation, rowValidation, rowsValidation}
 use Rattle.big_endian.specs.Layout.{snapshotHeader, rowAmounts}
-use Rattle.names.specs.Names.{spelled}
-use Rattle.names.specs.declared.Name.{Name}
 use Rattle.snapshot_reader.specs.Standing.{OfSnapshot, RowStands, ShortNames, RowOf, Passed}
 use Rattle.snapshot_reader.proofs.Header.{header}
 use Rattle.snapshot_reader.proofs.Rows.{Ends, start, at-row, advance, finished, rowHere, row-of}
@@ -67,14 +65,14 @@ module _ (pass : Pass) where
     row-there names = row-of names (coming names) more
 
     module _ (v : Verdict) (judged : (here : RowOf bytes at) → refusalOf (here .row .name) v ≡ pass .row (here .earlier) (here .row)) where
-      pub stops : (name : Name) → ((here : RowOf bytes at) → spelled name ≡ here .row .name) → NotDone v → ShortNames bytes
-          → OfSnapshot bytes (λ s. refusalOf (spelled name) v ≡ pass .rest [] (s .rows))
-      stops name named not-done known s is-read =
+      pub stops : (j : Judged) → ((here : RowOf bytes at) → refusalIn j ≡ refusalOf (here .row .name) v) → NotDone v → ShortNames bytes
+          → OfSnapshot bytes (λ s. refusalIn j ≡ pass .rest [] (s .rows))
+      stops j said not-done known s is-read =
           let names = namesIn known s is-read in
           let a = at-row (coming names) more in
           let here = rowHere names a in
           let others = pass .rest (a .earlier ++ a .row ∷ []) (a .later) in
-          ap (λ a. refusalOf a v) (named here)
+          said here
           ∙ refuses (a .row .name) v others not-done
           ∙ ap (λ o. andThen o others) (judged here)
           ∙ sym (a .so-far ∙ pass .step (a .earlier) (a .row) (a .later))

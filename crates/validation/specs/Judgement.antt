@@ -1,10 +1,11 @@
 -- What a judgement of a supplied snapshot says in document 01's numbers, and the names seen by a pass over its rows.
+use mathlib.Core.Path.{_≡_}
 use mathlib.Core.List.{List, [], _∷_}
 use mathlib.Core.Option.{Option, none, some}
 use Prim.Native.Nat.{_≤_}
 use lib.IntN.{ℤ}
 use Rattle.rules.specs.RoomAndSoundLedger.{longestName, Name}
-use Rattle.rules.specs.AnswerNumbers.{Reply, Refusal, ActiveReservations, DuplicateTenant, GhostReservation, NegativeLedgerField, ConservationViolation, AggregateOverflow, AlreadyRecoveryAware, InvalidAllocatorFence, LegacySnapshotRequiresMigration, NameTooLong, NamesFull, OutputTooShort, BadFrame, UnsoundLedger, done}
+use Rattle.rules.specs.AnswerNumbers.{Value, Amount, Identifier, Version, Fence, Count, Field, YesOrNo, TheName, SnapshotBytes, Reply, Refusal, ActiveReservations, DuplicateTenant, GhostReservation, NegativeLedgerField, ConservationViolation, AggregateOverflow, AlreadyRecoveryAware, InvalidAllocatorFence, LegacySnapshotRequiresMigration, NameTooLong, NamesFull, OutputTooShort, BadFrame, UnsoundLedger, done}
 use Rattle.rules.specs.SnapshotsMigrationCertificates.{Row, replyOr}
 use Rattle.names.specs.Names.{spelled, stored}
 use Rattle.validation.specs.declared.Verdict.{Verdict}
@@ -32,10 +33,6 @@ refusalOf a verdict.UnsoundLedger = some UnsoundLedger
 abbrev pub refusalIn : Judged → Option Refusal
 refusalIn j = refusalOf (spelled (j .name)) (j .verdict)
 
--- its name is one that a place can hold
-abbrev pub HasShortName : Judged → Type 0
-HasShortName j = j .name .length ≤ longestName
-
 -- a verdict that is of no row
 abbrev pub nameless : Verdict → Judged
 nameless v = record { name = stored []; verdict = v }
@@ -43,6 +40,24 @@ nameless v = record { name = stored []; verdict = v }
 -- the answer where nothing is carried when it is done
 abbrev pub judgedReply : Judged → Reply
 judgedReply j = replyOr (refusalIn j) (done [])
+
+-- the name in what an answer carries, where it stands first; empty where there is none
+abbrev pub nameCarried : List Value → Name
+nameCarried [] = []
+nameCarried (Amount z ∷ vs) = []
+nameCarried (Identifier n ∷ vs) = []
+nameCarried (Version n ∷ vs) = []
+nameCarried (Fence n ∷ vs) = []
+nameCarried (Count n ∷ vs) = []
+nameCarried (Field n ∷ vs) = []
+nameCarried (YesOrNo b ∷ vs) = []
+nameCarried (TheName a ∷ vs) = a
+nameCarried (SnapshotBytes bs ∷ vs) = []
+
+-- a judgement has one form: its name is the one that the answer carries, which a place can hold, with zeros after it
+pub record InStoredForm (j : Judged) : Type 0 where
+  pub name : j .name ≡ stored (nameCarried (judgedReply j .carried))
+  pub short : j .name .length ≤ longestName
 
 abbrev pub rowWith : Name → (initial remaining reserved committed : ℤ) → Row
 rowWith a initial remaining reserved committed = record { name = a; initial = initial; remaining = remaining; reserved = reserved; committed = committed }

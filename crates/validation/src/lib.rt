@@ -9,9 +9,9 @@ ghost use Prim.Native.Nat.{ℕ, _≤_};
 ghost use Rattle.rules.specs.Lists.{any};
 ghost use Rattle.rules.specs.RoomAndSoundLedger.{same, longestName};
 ghost use Rattle.rules.specs.SnapshotsMigrationCertificates.{rowConservation, conservation, rowValidation, rowsValidation, validation, status};
-ghost use Rattle.names.specs.Names.{spelled};
+ghost use Rattle.names.specs.Names.{stored};
 ghost use Rattle.snapshot_reader.specs.Standing.{IsSnapshot, ShortNames, RowOf, OfSnapshot};
-ghost use Rattle.validation.specs.Judgement.{refusalOf, refusalIn, judgedReply, nameless, rowWith, seenIn, HasShortName};
+ghost use Rattle.validation.specs.Judgement.{refusalOf, refusalIn, judgedReply, nameless, rowWith, seenIn, InStoredForm};
 
 // What is said of a snapshot: a check that is refused hands its refusal straight up. A name that it carries stands beside it, since an enum holds no array.
 pub enum Verdict {
@@ -32,7 +32,7 @@ pub enum Verdict {
     UnsoundLedger,
 }
 
-// The answer of every operation that is handed a snapshot. The name is that of the row that was refused; a verdict that carries none does not speak of it.
+// The answer of every operation that is handed a snapshot. The name is that of the row that was refused, and the empty one where the answer carries none.
 pub struct Judged {
     pub name: Name,
     pub verdict: Verdict,
@@ -77,12 +77,30 @@ fn balance_of(
 // The name of the row that starts here, kept by value.
 fn name_at(bytes: &[u8], at: usize) -> Name
     requires { ⌜ RowOf (now bytes) at ⌝ }
-    ensures name { λ r. ⌜ ((here : RowOf (now (bytes .entry)) at) → spelled r ≡ here .row .name) ⌝ }
+    ensures name { λ r. ⌜ ((here : RowOf (now (bytes .entry)) at) → r ≡ stored (here .row .name)) ⌝ }
     ensures short { λ r. ⌜ r .length ≤ longestName ⌝ }
 {
     let from = at + 1;
     let end = snapshot_reader::name_end(bytes, at);
     names::name_of(&bytes[from..end])
+}
+
+// What is said of the row that starts here: with its name where the answer carries one, 11 to 14, and else without.
+fn of_row(bytes: &[u8], at: usize, verdict: Verdict) -> Judged
+    requires { ⌜ RowOf (now bytes) at ⌝ }
+    ensures refusal { λ r. ⌜ ((here : RowOf (now (bytes .entry)) at) → refusalIn r ≡ refusalOf (here .row .name) verdict) ⌝ }
+    ensures form { λ r. ⌜ InStoredForm r ⌝ }
+{
+    match verdict {
+        Verdict::DuplicateTenant
+        | Verdict::GhostReservation(_)
+        | Verdict::NegativeLedgerField(_, _)
+        | Verdict::ConservationViolation(_) => {
+            let name = name_at(bytes, at);
+            Judged { name, verdict }
+        }
+        _ => nameless(verdict),
+    }
 }
 
 fn row_conservation(bytes: &[u8], at: usize) -> Verdict
@@ -97,14 +115,13 @@ fn row_conservation(bytes: &[u8], at: usize) -> Verdict
 pub fn conservation(bytes: &[u8]) -> Judged
     requires { ⌜ ShortNames (now bytes) ⌝ }
     ensures refusal { λ r. ⌜ OfSnapshot (now (bytes .entry)) (λ s. refusalIn r ≡ conservation (s .rows)) ⌝ }
-    ensures short { λ r. ⌜ HasShortName r ⌝ }
+    ensures form { λ r. ⌜ InStoredForm r ⌝ }
 {
     let mut at = rules::SNAPSHOT_HEADER;
     while at < bytes.len() {
         let verdict = row_conservation(bytes, at);
         let Verdict::Done = verdict else {
-            let name = name_at(bytes, at);
-            return Judged { name, verdict };
+            return of_row(bytes, at, verdict);
         };
         at = snapshot_reader::name_end(bytes, at) + rules::ROW_AMOUNTS;
     }
@@ -162,14 +179,13 @@ fn row_validation(bytes: &[u8], at: usize) -> Verdict
 fn rows_validation(bytes: &[u8]) -> Judged
     requires { ⌜ ShortNames (now bytes) ⌝ }
     ensures refusal { λ r. ⌜ OfSnapshot (now (bytes .entry)) (λ s. refusalIn r ≡ rowsValidation [] (s .rows)) ⌝ }
-    ensures short { λ r. ⌜ HasShortName r ⌝ }
+    ensures form { λ r. ⌜ InStoredForm r ⌝ }
 {
     let mut at = rules::SNAPSHOT_HEADER;
     while at < bytes.len() {
         let verdict = row_validation(bytes, at);
         let Verdict::Done = verdict else {
-            let name = name_at(bytes, at);
-            return Judged { name, verdict };
+            return of_row(bytes, at, verdict);
         };
         at = snapshot_reader::name_end(bytes, at) + rules::ROW_AMOUNTS;
     }
@@ -180,7 +196,7 @@ fn rows_validation(bytes: &[u8]) -> Judged
 pub fn validation(bytes: &[u8]) -> Judged
     requires { ⌜ ShortNames (now bytes) ⌝ }
     ensures refusal { λ r. ⌜ OfSnapshot (now (bytes .entry)) (λ s. refusalIn r ≡ validation s) ⌝ }
-    ensures short { λ r. ⌜ HasShortName r ⌝ }
+    ensures form { λ r. ⌜ InStoredForm r ⌝ }
 {
     let active = snapshot_reader::active(bytes);
     if 0 < active {
@@ -198,7 +214,7 @@ pub fn validation(bytes: &[u8]) -> Judged
 pub fn status(bytes: &[u8]) -> Judged
     requires { ⌜ IsSnapshot (now bytes) ⌝ }
     ensures answer { λ r. ⌜ OfSnapshot (now (bytes .entry)) (λ s. judgedReply r ≡ status s) ⌝ }
-    ensures short { λ r. ⌜ HasShortName r ⌝ }
+    ensures form { λ r. ⌜ InStoredForm r ⌝ }
 {
     if snapshot_reader::has_long_name(bytes) {
         return nameless(Verdict::NameTooLong);

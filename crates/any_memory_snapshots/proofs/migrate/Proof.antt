@@ -4,7 +4,7 @@ use mathlib.Core.Path.{sym, ap}
 use borrow.Author.Needs.{needs}
 use lib.ListN.{length}
 use Rattle.rules.specs.SnapshotsMigrationCertificates.{outputAfter, replyOr, migrate}
-use Rattle.validation.proofs.Deciding.{nameless-short}
+use Rattle.validation.proofs.StoredForm.{nameless-form}
 use Rattle.migration.specs.Migrated.{migratedReply}
 use Rattle.any_memory_snapshots.proofs.Supplied.{is-snapshot, bad-judged, judged}
 use Rattle.any_memory_snapshots.proofs.migrate.Statement.{statement}
@@ -17,7 +17,7 @@ returns c =
     let size = length (s .args .bytes .now) in
     let output = s .args .output .now in (
       bad-judged _ _ (c .before .before .is-snapshot .ensures) (migrate _ _) _ (c .before .if1 .taken) (ap (migratedReply size output) (c .nameless .ensures)),
-      (ap (λ j. outputAfter (migratedReply size output j) output) (sym (c .nameless .ensures)), nameless-short (c .nameless .ensures)),
+      (ap (λ j. outputAfter (migratedReply size output j) output) (sym (c .nameless .ensures)), nameless-form (c .nameless .ensures)),
     )
 
 migrate-requires : tie.Need-migrate-requires

@@ -1,13 +1,13 @@
 -- `any_memory_snapshots::restore` meets its contract: what `first_check` refuses is answered so, and what it passes is what `restoring` asks (FirstChecked).
 use borrow.Author.Needs.{needs}
 use Rattle.rules.specs.SnapshotsMigrationCertificates.{restore}
-use Rattle.validation.proofs.Deciding.{nameless-short}
+use Rattle.validation.proofs.StoredForm.{nameless-form}
 use Rattle.any_memory_snapshots.proofs.FirstChecked.{refused, known, answered}
 use Rattle.any_memory_snapshots.proofs.restore.Statement.{statement}
 use Rattle.any_memory_snapshots.proofs.restore.Tie as tie
 
 returns : tie.Need-returns
-returns c = (refused (c .before .before .first-check .ensures) restore (c .nameless .ensures) (c .before .match .keys2), nameless-short (c .nameless .ensures))
+returns c = (refused (c .before .before .first-check .ensures) restore (c .nameless .ensures) (c .before .match .keys2), nameless-form (c .nameless .ensures))
 
 returns-2 : tie.Need-returns-2
 returns-2 c =

@@ -3,14 +3,14 @@ use mathlib.Core.Path.{ap}
 use borrow.Author.Needs.{needs}
 use Rattle.rules.specs.SnapshotsMigrationCertificates.{replyOr, status}
 use Rattle.validation.specs.Judgement.{judgedReply}
-use Rattle.validation.proofs.Deciding.{nameless-short}
+use Rattle.validation.proofs.StoredForm.{nameless-form}
 use Rattle.any_memory_snapshots.proofs.Supplied.{is-snapshot, bad-judged, judged}
 use Rattle.any_memory_snapshots.proofs.status.Statement.{statement}
 use Rattle.any_memory_snapshots.proofs.status.Tie as tie
 
 returns : tie.Need-returns
 unfolding replyOr
-returns c = (bad-judged _ _ (c .before .before .is-snapshot .ensures) status _ (c .before .if1 .taken) (ap judgedReply (c .nameless .ensures)), nameless-short (c .nameless .ensures))
+returns c = (bad-judged _ _ (c .before .before .is-snapshot .ensures) status _ (c .before .if1 .taken) (ap judgedReply (c .nameless .ensures)), nameless-form (c .nameless .ensures))
 
 status-requires : tie.Need-status-requires
 status-requires c κs = is-snapshot _ _ (c .before .is-snapshot .ensures) (c .if1 .left)

@@ -18,8 +18,9 @@ use Rattle.names.specs.Names.{spelled}
 use Rattle.validation.specs.declared.Judged.{Judged}
 use Rattle.validation.specs.declared.Verdict.{Verdict}
 use Rattle.validation.specs.declared.Verdict.the-variants as verdict
-use Rattle.validation.specs.Judgement.{refusalOf, refusalIn, nameless, HasShortName}
+use Rattle.validation.specs.Judgement.{refusalOf, refusalIn, nameless, InStoredForm}
 use Rattle.validation.proofs.Deciding.{decides, goes-on, refuses, passes-on}
+use Rattle.validation.proofs.StoredForm.{nameless-form}
 use Rattle.migration.proofs.MigratedBytes.{migrated-length}
 use Rattle.migration.proofs.Refusing.{Decided, Passed, roomFor, long-name, aware, no-fence, high-fence, validated}
 use Rattle.migration.proofs.Untouched.{Refused, is-refused}
@@ -39,11 +40,11 @@ module _ (c : tie.Start) where
   Room = (c .args .fence ≤ M) × (length (c .args .bytes .now) ≤ c .args .size)
 
   abbrev Ensured : Judged → Type 0
-  Ensured r = ((s : Snapshot) → Read s → Answers s (refusalIn r)) × ((refusalIn r ≡ none → Room) × HasShortName r)
+  Ensured r = ((s : Snapshot) → Read s → Answers s (refusalIn r)) × ((refusalIn r ≡ none → Room) × InStoredForm r)
 
 module _ (c : tie.Start) (r : Judged) where
   decided : (v : Verdict) → r ≡ nameless v → ((s : Snapshot) → Read c s → Answers c s (refusalOf [] v)) → (refusalOf [] v ≡ none → Room c) → Ensured c r
-  decided v e answers room = subst (Ensured c) (sym e) (answers, (room, omega arith))
+  decided v e answers room = subst (Ensured c) (sym e) (answers, (room, nameless-form refl))
 
   refused : (v : Verdict) (refusal : Refusal) → r ≡ nameless v → refusalOf [] v ≡ some refusal → ((s : Snapshot) → Read c s → Answers c s (refusalOf [] v)) → Ensured c r
   refused v refusal e is answers = decided v e answers (λ passes. none-some (sym passes ∙ is))

@@ -12,7 +12,8 @@ use Rattle.rules.specs.AnswerNumbers.{Refusal, NamesFull}
 use Rattle.rules.specs.SnapshotsMigrationCertificates.{Snapshot, snapshotOfBytes, hasLongName, passes, _gives_else_, andThen, validation, restoreRefusal}
 use Rattle.names.specs.Names.{spelled}
 use Rattle.validation.specs.Judgement.{refusalOf, refusalIn}
-use Rattle.validation.proofs.Deciding.{decides, goes-on, refuses, passes-on, nameless-short}
+use Rattle.validation.proofs.Deciding.{decides, goes-on, refuses, passes-on}
+use Rattle.validation.proofs.StoredForm.{nameless-form}
 use Rattle.restoring.proofs.refusal.Statement.{statement}
 use Rattle.restoring.proofs.refusal.Tie as tie
 
@@ -28,7 +29,7 @@ of-room c s = ltb (c .args .names) (length (s .rows)) gives NamesFull else passe
 returns : tie.Need-returns
 unfolding restoreRefusal
 returns c =
-    (λ s e. ap refusalIn (c .nameless .ensures) ∙ sym (decides _ _ _ (sym (c .before .before .has-long-name .ensures s e) ∙ c .before .if1 .taken)), nameless-short (c .nameless .ensures))
+    (λ s e. ap refusalIn (c .nameless .ensures) ∙ sym (decides _ _ _ (sym (c .before .before .has-long-name .ensures s e) ∙ c .before .if1 .taken)), nameless-form (c .nameless .ensures))
 
 -- ── no name is too long: the version decides, and then the validation ──────────────────────────
 
@@ -42,7 +43,7 @@ by-version c s e = goes-on _ _ _ (short-names c s e)
 returns-2 : tie.Need-returns-2
 returns-2 c =
     let other = c .before in
-    (λ s e. ap refusalIn (c .nameless2 .ensures) ∙ refuses [] (other .before .before .before .before .args .of-version) _ (other .match .keys2) ∙ sym (by-version (other .before) s e), nameless-short (c .nameless2 .ensures))
+    (λ s e. ap refusalIn (c .nameless2 .ensures) ∙ refuses [] (other .before .before .before .before .args .of-version) _ (other .match .keys2) ∙ sym (by-version (other .before) s e), nameless-form (c .nameless2 .ensures))
 
 validation-requires : tie.Need-validation-requires
 validation-requires c κs =
@@ -73,12 +74,12 @@ by-room c s e =
 returns-4 : tie.Need-returns-4
 returns-4 c =
     let counted = c .before .before in
-    (λ s e. ap refusalIn (c .nameless3 .ensures) ∙ sym (by-room counted s e ∙ decides _ _ _ (ap (ltb _) (sym (counted .count .ensures s e)) ∙ lt-ltb _ _ (c .before .if2 .taken))), nameless-short (c .nameless3 .ensures))
+    (λ s e. ap refusalIn (c .nameless3 .ensures) ∙ sym (by-room counted s e ∙ decides _ _ _ (ap (ltb _) (sym (counted .count .ensures s e)) ∙ lt-ltb _ _ (c .before .if2 .taken))), nameless-form (c .nameless3 .ensures))
 
 returns-5 : tie.Need-returns-5
 returns-5 c =
     let counted = c .before .before in
-    (λ s e. ap refusalIn (c .nameless4 .ensures) ∙ sym (by-room counted s e ∙ goes-on _ _ _ (ap (ltb _) (sym (counted .count .ensures s e)) ∙ le-ltb _ _ (c .before .if2 .left))), nameless-short (c .nameless4 .ensures))
+    (λ s e. ap refusalIn (c .nameless4 .ensures) ∙ sym (by-room counted s e ∙ goes-on _ _ _ (ap (ltb _) (sym (counted .count .ensures s e)) ∙ le-ltb _ _ (c .before .if2 .left))), nameless-form (c .nameless4 .ensures))
 
 pub refusal-spec : {M : Type 1} → statement M
 refusal-spec =

@@ -1,13 +1,11 @@
--- `validation::name_at` meets its contract: the part between the length and the amounts is the name, short since no name of the snapshot is long, so storing
--- it and spelling it gives it back.
+-- `validation::name_at` meets its contract: the part between the length and the amounts is the name, short since no name of the snapshot is long.
 use mathlib.Core.Path.{ap, sym, subst, _∙_}
 use Prim.Native.Nat.{_≤_}
 use native.Mathlib.Omega.{arith}
 use borrow.Author.Needs.{needs}
 use lib.ListN.{length}
 use Rattle.rules.specs.RoomAndSoundLedger.{longestName}
-use Rattle.names.specs.Names.{spelled}
-use Rattle.names.proofs.Storing.{spelled-stored}
+use Rattle.names.specs.Names.{stored}
 use Rattle.snapshot_reader.specs.Standing.{EndsName}
 use Rattle.snapshot_reader.proofs.Rows.{part-is-name, short-row}
 use Rattle.validation.proofs.name_at.Statement.{statement}
@@ -25,7 +23,7 @@ name-of-requires c κs = subst (λ part. length part ≤ longestName) (sym (part
 returns : tie.Need-returns
 returns c =
     let e = c .before .before in (
-      λ here. ap spelled (c .name-of .ensures) ∙ spelled-stored _ ∙ part-is-name (e .name-end .ensures (here .row) (here .later) (here .from)),
+      λ here. c .name-of .ensures ∙ ap stored (part-is-name (e .name-end .ensures (here .row) (here .later) (here .from))),
       subst (λ n. n .length ≤ longestName) (sym (c .name-of .ensures)) (subst (λ part. length part ≤ longestName) (sym (part-is-name (ends e))) (short-name e)),
     )
 

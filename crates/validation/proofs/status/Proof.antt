@@ -5,7 +5,8 @@ use borrow.Author.Needs.{needs}
 use Rattle.rules.specs.AnswerNumbers.{done}
 use Rattle.rules.specs.SnapshotsMigrationCertificates.{replyOr, status}
 use Rattle.validation.specs.Judgement.{judgedReply}
-use Rattle.validation.proofs.Deciding.{decides, goes-on, nameless-short}
+use Rattle.validation.proofs.Deciding.{decides, goes-on}
+use Rattle.validation.proofs.StoredForm.{nameless-form}
 use Rattle.validation.proofs.status.Statement.{statement}
 use Rattle.validation.proofs.status.Tie as tie
 
@@ -13,7 +14,7 @@ returns : tie.Need-returns
 unfolding status
 returns c = (
   λ s e. ap judgedReply (c .nameless .ensures) ∙ ap (λ o. replyOr o (done [])) (sym (decides _ _ _ (sym (c .before .before .has-long-name .ensures s e) ∙ c .before .if1 .taken))),
-  nameless-short (c .nameless .ensures),
+  nameless-form (c .nameless .ensures),
 )
 
 conservation-requires : tie.Need-conservation-requires

@@ -11,7 +11,8 @@ use Rattle.rules.specs.SnapshotsMigrationCertificates.{andThen, conservation, v
 use Rattle.snapshot_reader.specs.Standing.{OfSnapshot}
 use Rattle.names.specs.Names.{spelled}
 use Rattle.validation.specs.Judgement.{refusalIn}
-use Rattle.validation.proofs.Deciding.{decides, goes-on, refuses, passes-on, nameless-short}
+use Rattle.validation.proofs.Deciding.{decides, goes-on, refuses, passes-on}
+use Rattle.validation.proofs.StoredForm.{nameless-form}
 use Rattle.validation.proofs.validation.Statement.{statement}
 use Rattle.validation.proofs.validation.Tie as tie
 
@@ -22,7 +23,7 @@ returns c = (
       let active = c .before .before .active in
       let some-live : 0 < s .active = omega (arith, active .ensures s e, c .before .if1 .taken) in
       ap refusalIn (c .nameless .ensures) ∙ ap (λ n. some (ActiveReservations n)) (active .ensures s e) ∙ sym (decides _ _ _ (lt-ltb 0 (s .active) some-live)),
-  nameless-short (c .nameless .ensures),
+  nameless-form (c .nameless .ensures),
 )
 
 -- none live: the rows decide, and then their conservation
