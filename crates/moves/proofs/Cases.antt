@@ -134,11 +134,11 @@ pub record Passes (s : Seat) (z : ℤ) (n reserved : ℕ) : Type 0 where
   pub within : (ltb 0 (s .limit) && ltb (s .limit) reserved) ≡ false
 
 module _ (last : Bool) where
-  pub reserve-negative : (z : ℤ) (c : Option Account) (l : ℕ) → z ≡ negsuc (mag z) → refuse (Insufficient 0 z) ≡ reserveRule z last c l
+  pub reserve-negative : (z : ℤ) (c : Option Account) (l : ℕ) → z ≡ negsuc (mag z) → refuse (Insufficient (pos 0) z) ≡ reserveRule z last c l
   unfolding reserveRule
   reserve-negative z c l e = rw e
 
-  pub reserve-zero : (z : ℤ) (c : Option Account) (l n : ℕ) → z ≡ pos n → n ≡ 0 → refuse (Insufficient 0 z) ≡ reserveRule z last c l
+  pub reserve-zero : (z : ℤ) (c : Option Account) (l n : ℕ) → z ≡ pos n → n ≡ 0 → refuse (Insufficient (pos 0) z) ≡ reserveRule z last c l
   unfolding reserveRule
   reserve-zero z c l n amount e = rw (amount, e)
 
@@ -148,13 +148,13 @@ module _ (last : Bool) where
     reserve-missing zero amount positive h = absurd (positive refl)
     reserve-missing (suc n) amount positive h = rw (amount, without-account s h)
 
-    pub reserve-overflows : (n : ℕ) → Asked s z n → M < s .reserved + n → refuse (OverflowOfReserve (s .reserved)) ≡ reserveRule z last (accountOf s) (s .limit)
+    pub reserve-overflows : (n : ℕ) → Asked s z n → M < s .reserved + n → refuse (OverflowOfReserve (pos (s .reserved))) ≡ reserveRule z last (accountOf s) (s .limit)
     unfolding reserveRule
     reserve-overflows zero asked above = absurd (asked .positive refl)
     reserve-overflows (suc n) asked above = rw (asked .amount, with-account s (asked .present), lt-ltb M (s .reserved + suc n) above)
 
     pub reserve-exposed : (n : ℕ) → Asked s z n → (reserved : ℕ) → reserved ≡ s .reserved + n → s .reserved + n ≤ M → (ltb 0 (s .limit) && ltb (s .limit) reserved) ≡ true
-        → refuse (ExposureLimitExceeded (s .reserved) (s .limit)) ≡ reserveRule z last (accountOf s) (s .limit)
+        → refuse (ExposureLimitExceeded (pos (s .reserved)) (pos (s .limit))) ≡ reserveRule z last (accountOf s) (s .limit)
     unfolding reserveRule
     reserve-exposed zero asked reserved e fits exceeds = absurd (asked .positive refl)
     reserve-exposed (suc n) asked reserved e fits exceeds = rw (asked .amount, with-account s (asked .present), le-ltb M (s .reserved + suc n) fits, ← e, exceeds)
@@ -162,17 +162,17 @@ module _ (last : Bool) where
     -- what the rule comes to after those checks
     reserve-passes : (n reserved : ℕ) → Passes s z n reserved
         → reserveRule z last (accountOf s) (s .limit)
-        ≡ cond last (refuse (OverflowOfReserve (s .reserved)))
-        (cond (ltb (s .remaining) n) (lose (Insufficient (s .remaining) (pos n))) (book (s .remaining - n) (seat (account (s .initial) (s .remaining - n) reserved (s .committed)) (s .limit)) n))
+        ≡ cond last (refuse (OverflowOfReserve (pos (s .reserved))))
+        (cond (ltb (s .remaining) n) (lose (Insufficient (pos (s .remaining)) (pos n))) (book (s .remaining - n) (seat (account (s .initial) (s .remaining - n) reserved (s .committed)) (s .limit)) n))
     unfolding reserveRule
     reserve-passes zero reserved p = absurd (p .asked .positive refl)
     reserve-passes (suc n) reserved p = rw (p .asked .amount, with-account s (p .asked .present), le-ltb M (s .reserved + suc n) (p .fits), ← p .sum, p .within)
 
 module _ (s : Seat) (z : ℤ) (n reserved next : ℕ) (passes : Passes s z n reserved) where
-  pub reserve-ids-used : next ≡ codeM → refuse (OverflowOfReserve (s .reserved)) ≡ reserveRule z (eqb next M) (accountOf s) (s .limit)
+  pub reserve-ids-used : next ≡ codeM → refuse (OverflowOfReserve (pos (s .reserved))) ≡ reserveRule z (eqb next M) (accountOf s) (s .limit)
   reserve-ids-used h = rw (reserve-passes (eqb next M) s z n reserved passes, eq-eqb next M (unfold M in h))
 
-  pub reserve-insufficient : (next ≡ codeM → ⊥) → s .remaining < n → lose (Insufficient (s .remaining) (pos n)) ≡ reserveRule z (eqb next M) (accountOf s) (s .limit)
+  pub reserve-insufficient : (next ≡ codeM → ⊥) → s .remaining < n → lose (Insufficient (pos (s .remaining)) (pos n)) ≡ reserveRule z (eqb next M) (accountOf s) (s .limit)
   reserve-insufficient h short = rw (reserve-passes (eqb next M) s z n reserved passes, ne-eqb next M (unfold M in h), lt-ltb (s .remaining) n short)
 
   pub reserve-books : (next ≡ codeM → ⊥) → n ≤ s .remaining
@@ -191,12 +191,12 @@ module _ (s : Seat) (booked : ℕ) (z : ℤ) (n : ℕ) (amount : z ≡ pos n) wh
   commit-missing h = rw (amount, without-account s h)
 
   module _ (present : s .account ≡ 0 → ⊥) where
-    pub commit-overflows : M < s .committed + n → leave (OverflowOfCommit (s .remaining)) ≡ commitRule z (some booked) (accountOf s) (s .limit)
+    pub commit-overflows : M < s .committed + n → leave (OverflowOfCommit (pos (s .remaining))) ≡ commitRule z (some booked) (accountOf s) (s .limit)
     unfolding commitRule
     commit-overflows above = rw (amount, with-account s present, lt-ltb M (s .committed + n) above)
 
     module _ (fits : s .committed + n ≤ M) where
-      pub commit-overruns : ltZ (pos (s .remaining)) (pos n -ℤ pos booked) ≡ true → leave (Overrun (s .remaining)) ≡ commitRule z (some booked) (accountOf s) (s .limit)
+      pub commit-overruns : ltZ (pos (s .remaining)) (pos n -ℤ pos booked) ≡ true → leave (Overrun (pos (s .remaining))) ≡ commitRule z (some booked) (accountOf s) (s .limit)
       unfolding commitRule
       commit-overruns exceeds = rw (amount, with-account s present, le-ltb M (s .committed + n) fits, exceeds)
 

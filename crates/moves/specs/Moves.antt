@@ -65,18 +65,18 @@ limitingMove z limiting.Negative = refuse (NegativeAmount z)
 limitingMove z (limiting.Changed s) = write [] (meaning s)
 
 abbrev pub reservingMove : ℤ → Reserving → Move
-reservingMove z reserving.NotPositive = refuse (Insufficient 0 z)
+reservingMove z reserving.NotPositive = refuse (Insufficient (pos 0) z)
 reservingMove z reserving.Missing = refuse MissingTenant
-reservingMove z (reserving.Overflow reserved) = refuse (OverflowOfReserve reserved)
-reservingMove z (reserving.Exposed reserved limit) = refuse (ExposureLimitExceeded reserved limit)
-reservingMove z (reserving.Insufficient remaining cost) = lose (Insufficient remaining (pos cost))
+reservingMove z (reserving.Overflow reserved) = refuse (OverflowOfReserve (pos reserved))
+reservingMove z (reserving.Exposed reserved limit) = refuse (ExposureLimitExceeded (pos reserved) (pos limit))
+reservingMove z (reserving.Insufficient remaining cost) = lose (Insufficient (pos remaining) (pos cost))
 reservingMove z (reserving.Booked s cost) = book (s .remaining) (meaning s) cost
 
 abbrev pub committingSettlement : ℤ → Committing → Settlement
 committingSettlement z committing.Invalid = leave InvalidAmount
 committingSettlement z committing.Missing = leave MissingTenant
-committingSettlement z (committing.Overflow remaining) = leave (OverflowOfCommit remaining)
-committingSettlement z (committing.Overrun remaining) = leave (Overrun remaining)
+committingSettlement z (committing.Overflow remaining) = leave (OverflowOfCommit (pos remaining))
+committingSettlement z (committing.Overrun remaining) = leave (Overrun (pos remaining))
 committingSettlement z (committing.Ended s) = end (pos (s .remaining) ∷ z ∷ []) (meaning s)
 
 abbrev pub releasingSettlement : (reserved : ℕ) → Releasing → Settlement

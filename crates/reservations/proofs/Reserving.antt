@@ -126,10 +126,10 @@ module _ (xs : List ℕ) (L : Ledger) (room : IsRoom xs L) (a : Name) where
 
     module _ (bytes : IsBytes a) (amount : IsAmount z) (h : Head) (loaded : h ≡ headOf xs) where
       -- an id drawn and lost
-      pub loses : (remaining cost : ℕ) → Decided L a z (reserving.Insufficient remaining cost) → (t : Reply) → t ≡ replyOf (Insufficient remaining (pos cost))
+      pub loses : (remaining cost : ℕ) → Decided L a z (reserving.Insufficient remaining cost) → (t : Reply) → t ≡ replyOf (Insufficient (pos remaining) (pos cost))
           → (ys : List ℕ) → length ys ≡ length xs → contentsOf ys ≡ withHead (afterDraw h) (contentsOf xs) → Performed (λ K. operate K (reserve a z)) L t ys
       loses remaining cost d t q ys l k =
-          becomes (reserve a z) L xs room (bytes, amount) t (replyOf (Insufficient remaining (pos cost))) (drawn L) (d .move ∙ (unfold perform in refl)) q refl refl ys l
+          becomes (reserve a z) L xs room (bytes, amount) t (replyOf (Insufficient (pos remaining) (pos cost))) (drawn L) (d .move ∙ (unfold perform in refl)) q refl refl ys l
           (k ∙ ap₂ (λ g c. withHead (afterDraw g) c) (loaded ∙ head-is xs L room) (room .holds) ∙ id-drawn L)
 
       pub books : (s : Seat) (cost : ℕ) → Decided L a z (reserving.Booked s cost) → (i : ℕ) → At i ≡ placeOfName a searched → {r : Reserved} {ys : List ℕ} → Booked i s cost h xs r ys → Performed (λ K. operate K (reserve a z)) L (reservedReply r) ys

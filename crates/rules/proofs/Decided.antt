@@ -125,7 +125,7 @@ module _ (x : Operation) where
   release-leaves (some reserved) (some c) l = tt
 
 -- 6 to a cost of 0 or less is not marked
-free-six : (a : Name) (z : ℤ) → ((cost : ℕ) → z ≢ pos (suc cost)) → Plain (onAccount (reserve a z)) (Insufficient 0 z)
+free-six : (a : Name) (z : ℤ) → ((cost : ℕ) → z ≢ pos (suc cost)) → Plain (onAccount (reserve a z)) (Insufficient (pos 0) z)
 free-six a z free = record { before-23 = omega arith; unmarked = go }
   where
     go : ¬ Marked (onAccount (reserve a z)) 6

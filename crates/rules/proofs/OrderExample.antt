@@ -102,7 +102,7 @@ paired-ledgers = paired-ledger ∙ sym rebalanced-ledger
 abbrev toA : List AirlineAnswer
 toA =
     answerTo A (done (Amount (pos 85) ∷ Identifier 0 ∷ []))
-    ∷ answerTo A (replyOf (Insufficient 85 (pos 500)))
+    ∷ answerTo A (replyOf (Insufficient (pos 85) (pos 500)))
     ∷ answerTo A (done [])
     ∷ answerTo A (done (Amount (pos 78) ∷ Identifier 0 ∷ []))
     ∷ answerTo A (doneWith (pos 84 ∷ pos 4 ∷ []))

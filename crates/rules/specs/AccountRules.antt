@@ -63,17 +63,17 @@ limitRule (pos n) c l = write [] (seat c n)
 -- Reserve: 6 unless the cost is positive, without an account too; 3; 4 where reserved would pass M; 5 where it would pass a limit that is set;
 -- 4 with the ids at their end; 6 where remaining is less, and an id is drawn; else it is booked. 21 is asked last, by `perform`
 unfoldable pub reserveRule : ℤ → (nextIdIsM : Bool) → Option Account → ℕ → Move
-reserveRule (negsuc n) nextIdIsM c l = refuse (Insufficient 0 (negsuc n))
-reserveRule (pos zero) nextIdIsM c l = refuse (Insufficient 0 (pos zero))
+reserveRule (negsuc n) nextIdIsM c l = refuse (Insufficient (pos 0) (negsuc n))
+reserveRule (pos zero) nextIdIsM c l = refuse (Insufficient (pos 0) (pos zero))
 reserveRule (pos (suc n)) nextIdIsM none l = refuse MissingTenant
 reserveRule (pos (suc n)) nextIdIsM (some c) l =
     let cost : ℕ = suc n in
     let reserved : ℕ = c .reserved + cost in
     let remaining : ℕ = c .remaining - cost in
-    cond (ltb M reserved) (refuse (OverflowOfReserve (c .reserved)))
-    (cond (ltb 0 l && ltb l reserved) (refuse (ExposureLimitExceeded (c .reserved) l))
-    (cond nextIdIsM (refuse (OverflowOfReserve (c .reserved)))
-    (cond (ltb (c .remaining) cost) (lose (Insufficient (c .remaining) (pos cost)))
+    cond (ltb M reserved) (refuse (OverflowOfReserve (pos (c .reserved))))
+    (cond (ltb 0 l && ltb l reserved) (refuse (ExposureLimitExceeded (pos (c .reserved)) (pos l)))
+    (cond nextIdIsM (refuse (OverflowOfReserve (pos (c .reserved))))
+    (cond (ltb (c .remaining) cost) (lose (Insufficient (pos (c .remaining)) (pos cost)))
     (book remaining (seat (account (c .initial) remaining reserved (c .committed)) l) cost))))
 
 -- Commit: 2 below 0; 7; 4 where committed would pass M; 8 where delta is more than remaining; else remaining pays delta, or gets it back,
@@ -86,8 +86,8 @@ commitRule (pos actual) (some reserved) none l = leave MissingTenant
 commitRule (pos actual) (some reserved) (some c) l =
     let delta : ℤ = pos actual -ℤ pos reserved in
     let remaining : ℕ = natural (pos (c .remaining) -ℤ delta) in
-    cond (ltb M (c .committed + actual)) (leave (OverflowOfCommit (c .remaining)))
-    (cond (ltZ (pos (c .remaining)) delta) (leave (Overrun (c .remaining)))
+    cond (ltb M (c .committed + actual)) (leave (OverflowOfCommit (pos (c .remaining))))
+    (cond (ltZ (pos (c .remaining)) delta) (leave (Overrun (pos (c .remaining))))
     (end (pos remaining ∷ pos actual ∷ []) (seat (account (c .initial) remaining (c .reserved - reserved) (c .committed + actual)) l)))
 
 -- Release: 7; else remaining gets the amount back and the reservation ends. Carries both

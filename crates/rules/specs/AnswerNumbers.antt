@@ -3,7 +3,7 @@ use mathlib.Core.Bool.{Bool}
 use mathlib.Core.List.{List, [], _∷_}
 use mathlib.Core.Option.{Option, none, some}
 use Prim.Native.Nat.{ℕ}
-use lib.IntN.{ℤ, pos}
+use lib.IntN.{ℤ}
 use Rattle.rules.specs.RoomAndSoundLedger.{Name, Ledger, Sound}
 
 -- What an answer can carry
@@ -42,13 +42,13 @@ versionField = 4
 pub data Refusal : Type 0 where
   NegativeAmount : (value : ℤ) → Refusal
   InvalidAmount MissingTenant : Refusal
-  OverflowOfReserve : (reserved : ℕ) → Refusal
-  OverflowOfCommit : (remaining : ℕ) → Refusal
+  OverflowOfReserve : (reserved : ℤ) → Refusal
+  OverflowOfCommit : (remaining : ℤ) → Refusal
   OverflowOfTopUp : Refusal
-  ExposureLimitExceeded : (reserved limit : ℕ) → Refusal
-  Insufficient : (remaining : ℕ) (required : ℤ) → Refusal
+  ExposureLimitExceeded : (reserved limit : ℤ) → Refusal
+  Insufficient : (remaining required : ℤ) → Refusal
   MissingReservation : Refusal
-  Overrun : (remaining : ℕ) → Refusal
+  Overrun : (remaining : ℤ) → Refusal
   AllocatorExhausted : Refusal
   ActiveReservations : (count : ℕ) → Refusal
   DuplicateTenant : (tenant : Name) → Refusal
@@ -64,13 +64,13 @@ abbrev pub replyOf : Refusal → Reply
 replyOf (NegativeAmount value) = reply 1 (Amount value ∷ [])
 replyOf InvalidAmount = reply 2 []
 replyOf MissingTenant = reply 3 []
-replyOf (OverflowOfReserve reserved) = reply 4 (Amount (pos reserved) ∷ [])
-replyOf (OverflowOfCommit remaining) = reply 4 (Amount (pos remaining) ∷ [])
+replyOf (OverflowOfReserve reserved) = reply 4 (Amount reserved ∷ [])
+replyOf (OverflowOfCommit remaining) = reply 4 (Amount remaining ∷ [])
 replyOf OverflowOfTopUp = reply 4 []
-replyOf (ExposureLimitExceeded reserved limit) = reply 5 (Amount (pos reserved) ∷ Amount (pos limit) ∷ [])
-replyOf (Insufficient remaining required) = reply 6 (Amount (pos remaining) ∷ Amount required ∷ [])
+replyOf (ExposureLimitExceeded reserved limit) = reply 5 (Amount reserved ∷ Amount limit ∷ [])
+replyOf (Insufficient remaining required) = reply 6 (Amount remaining ∷ Amount required ∷ [])
 replyOf MissingReservation = reply 7 []
-replyOf (Overrun remaining) = reply 8 (Amount (pos remaining) ∷ [])
+replyOf (Overrun remaining) = reply 8 (Amount remaining ∷ [])
 replyOf AllocatorExhausted = reply 9 []
 replyOf (ActiveReservations count) = reply 10 (Count count ∷ [])
 replyOf (DuplicateTenant tenant) = reply 11 (TheName tenant ∷ [])

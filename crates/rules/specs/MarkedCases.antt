@@ -50,24 +50,24 @@ granted n i = done (Amount (pos n) ∷ Identifier i ∷ [])
 unfoldable pub markedCases : List Case
 markedCases =
     -- W1
-    case (onAccount (reserve Q1 (pos 0)) ∷ []) (replyOf (Insufficient 0 (pos 0))) 1
+    case (onAccount (reserve Q1 (pos 0)) ∷ []) (replyOf (Insufficient (pos 0) (pos 0))) 1
     -- W2
     ∷ case (onAccount (reserve Q1 (pos 5)) ∷ []) (replyOf MissingTenant) 1
     -- W3
-    ∷ case (with100 (reserve Q1 (pos 101) ∷ [])) (replyOf (Insufficient 100 (pos 101))) 2
+    ∷ case (with100 (reserve Q1 (pos 101) ∷ [])) (replyOf (Insufficient (pos 100) (pos 101))) 2
     -- W4
     ∷ case (with100 (reserve Q1 (pos 101) ∷ reserve Q1 (pos 100) ∷ [])) (granted 0 2) 3
     -- W5
-    ∷ case (with100 (limit Q1 (pos 50) ∷ reserve Q1 (pos 50) ∷ reserve Q1 (pos 1) ∷ [])) (replyOf (ExposureLimitExceeded 50 50)) 2
+    ∷ case (with100 (limit Q1 (pos 50) ∷ reserve Q1 (pos 50) ∷ reserve Q1 (pos 1) ∷ [])) (replyOf (ExposureLimitExceeded (pos 50) (pos 50))) 2
     -- W6
-    ∷ case (with100 (reserve Q1 (pos 10) ∷ reserve Q1 (pos M) ∷ [])) (replyOf (OverflowOfReserve 10)) 2
+    ∷ case (with100 (reserve Q1 (pos 10) ∷ reserve Q1 (pos M) ∷ [])) (replyOf (OverflowOfReserve (pos 10))) 2
     -- W7
     ∷ case (with100 (reserve Q1 (pos 10) ∷ commit 1 (pos 0) ∷ [])) (doneWith (pos 100 ∷ pos 0 ∷ [])) 2
     -- W8
-    ∷ case (with100 (reserve Q1 (pos 10) ∷ commit 1 (pos 101) ∷ [])) (replyOf (Overrun 90)) 2
+    ∷ case (with100 (reserve Q1 (pos 10) ∷ commit 1 (pos 101) ∷ [])) (replyOf (Overrun (pos 90))) 2
     ∷ case (with100 (reserve Q1 (pos 10) ∷ commit 1 (pos 101) ∷ commit 1 (pos 100) ∷ [])) (doneWith (pos 0 ∷ pos 100 ∷ [])) 2
     -- W9
-    ∷ case (with100 (reserve Q1 (pos 10) ∷ commit 1 (pos 60) ∷ reserve Q1 (pos 10) ∷ commit 2 (pos M) ∷ [])) (replyOf (OverflowOfCommit 30)) 3
+    ∷ case (with100 (reserve Q1 (pos 10) ∷ commit 1 (pos 60) ∷ reserve Q1 (pos 10) ∷ commit 2 (pos M) ∷ [])) (replyOf (OverflowOfCommit (pos 30))) 3
     -- W10
     ∷ case (map onAccount (ensure Q1 (pos (M - 5)) ∷ topUp Q1 (pos 6) ∷ [])) (replyOf OverflowOfTopUp) 1
     ∷ case (map onAccount (ensure Q1 (pos (M - 5)) ∷ topUp Q1 (pos 6) ∷ topUp Q1 (pos 5) ∷ [])) (doneWith (pos 5 ∷ pos M ∷ pos M ∷ [])) 1
@@ -77,7 +77,7 @@ markedCases =
     ∷ case (restoreFrom (withoutRows (2 ^ 63 + 7)) ∷ []) (done []) 7
     -- W12
     ∷ case (restoreFrom fenced ∷ onAccount (reserve Q1 (pos 1)) ∷ []) (granted 99 (M - 1)) M
-    ∷ case (restoreFrom fenced ∷ onAccount (reserve Q1 (pos 1)) ∷ onAccount (reserve Q1 (pos 1)) ∷ []) (replyOf (OverflowOfReserve 1)) M
+    ∷ case (restoreFrom fenced ∷ onAccount (reserve Q1 (pos 1)) ∷ onAccount (reserve Q1 (pos 1)) ∷ []) (replyOf (OverflowOfReserve (pos 1))) M
     ∷ case (restoreFrom fenced ∷ onAccount (reserve Q1 (pos 1)) ∷ onAccount (reserve Q1 (pos 1)) ∷ takeSnapshot ∷ []) (replyOf AllocatorExhausted) M
     ∷ []
 

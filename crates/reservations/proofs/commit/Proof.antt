@@ -7,7 +7,7 @@ use native.Mathlib.Omega.{arith}
 use borrow.Author.Needs.{needs}
 use lib.IntN.{ℤ}
 use Rattle.rules.specs.RoomAndSoundLedger.{M, Ledger}
-use Rattle.rules.specs.AnswerNumbers.{Amount, reply, InvalidAmount, MissingTenant, OverflowOfCommit, Overrun}
+use Rattle.rules.specs.AnswerNumbers.{InvalidAmount, MissingTenant, OverflowOfCommit, Overrun, replyOf}
 use Rattle.rules.specs.AccountRules.{AccountOperation, commit, commitRule, operate, onBooking, booked, doneWith}
 use Rattle.rules.specs.Domain.{IsAmount}
 use Rattle.numbers.proofs.Amounts.{amount-fits}
@@ -113,7 +113,7 @@ returns-4 : tie.Need-returns-4
 returns-4 c L r =
     let d = c .before .before .before .before in
     let s = start d in
-    leaves (room s) L r (operation s) (id s) (at (place d)) _ (OverflowOfCommit _) (overflows (c .before) L r) _ (ap (λ v. reply 4 (Amount v ∷ [])) (c .amount .ensures))
+    leaves (room s) L r (operation s) (id s) (at (place d)) _ (OverflowOfCommit _) (overflows (c .before) L r) _ (ap (λ v. replyOf (OverflowOfCommit v)) (c .amount .ensures))
 
 overruns : (c : tie.After-known-told3) → Decides (c .before .before .before) (committing.Overrun (c .before .decided2 .given .0 .0))
 overruns c = told (c .before .before .before) _ (c .before .decided2 .given .1)
@@ -122,7 +122,7 @@ returns-5 : tie.Need-returns-5
 returns-5 c L r =
     let d = c .before .before .before .before in
     let s = start d in
-    leaves (room s) L r (operation s) (id s) (at (place d)) _ (Overrun _) (overruns (c .before) L r) _ (ap (λ v. reply 8 (Amount v ∷ [])) (c .amount2 .ensures))
+    leaves (room s) L r (operation s) (id s) (at (place d)) _ (Overrun _) (overruns (c .before) L r) _ (ap (λ v. replyOf (Overrun v)) (c .amount2 .ensures))
 
 -- ── the reservation ends ───────────────────────────────────────────────────────────────────────
 
