@@ -1,5 +1,6 @@
 pub mod Filled
 pub mod Decoding
+pub mod SameAnswers
 pub mod Numbers
 pub mod Steps
 pub mod Seating

@@ -8,6 +8,7 @@ pub mod Delta
 pub mod SoundByName
 pub mod Soundness
 pub mod Checks
+pub mod Values
 pub mod SnapshotSoundness
 pub mod Decided
 pub mod OwnSnapshot
