@@ -1,3 +1,4 @@
 pub mod Supplied
 pub mod FirstChecked
+pub mod Results
 pub mod SameBytes

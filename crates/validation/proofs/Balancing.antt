@@ -7,8 +7,9 @@ use lib.IntN.{ℤ, _+ℤ_, _-ℤ_}
 use Rattle.rules.specs.RoomAndSoundLedger.{Name}
 use Rattle.rules.specs.AnswerNumbers.{ConservationViolation, AggregateOverflow}
 use Rattle.rules.specs.SnapshotsMigrationCertificates.{Row, fits64, isNegative, rowConservation}
+use Rattle.rules.proofs.Values.{equals-self}
 use Rattle.validation.specs.Judgement.{rowWith}
-use Rattle.validation.proofs.Deciding.{decides, goes-on, equals-self, equals-other}
+use Rattle.validation.proofs.Deciding.{decides, goes-on, equals-other}
 
 module _ (a : Name) (initial remaining reserved committed : ℤ) where
   abbrev exact : ℤ

@@ -5,9 +5,8 @@ use mathlib.Core.Bool.{Bool, true, false}
 use mathlib.Core.List.{List, [], _∷_}
 use mathlib.Core.Option.{Option, none, some}
 use Prim.Native.Nat.{ℕ, _^_, _<_}
-use borrow.Author.Tests.{eq-eqb}
 use denote.Enum.Declared.{tagOf, declared}
-use lib.IntN.{ℤ, pos, negsuc}
+use lib.IntN.{ℤ}
 use lib.Signed.{mag}
 use types.Run.{OneOf, miss}
 use Rattle.rules.specs.RoomAndSoundLedger.{Name}
@@ -29,10 +28,6 @@ module _ (fails : Bool) (refusal : Refusal) (later : Option Refusal) where
   pub goes-on : fails ≡ false → (fails gives refusal else later) ≡ later
   unfolding _gives_else_
   goes-on e = rw e
-
-pub equals-self : (z : ℤ) → equals z z ≡ true
-equals-self (pos n) = eq-eqb n n refl
-equals-self (negsuc n) = eq-eqb n n refl
 
 pub equals-other : (y z : ℤ) → y ≢ z → equals y z ≡ false
 equals-other y z other = by-bool (λ b. equals y z ≡ b → b ≡ false) (equals y z) (λ _ e. absurd (other (equals-true y z e))) (λ _ e. refl) refl
