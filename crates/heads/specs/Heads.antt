@@ -5,8 +5,8 @@ use lib.Dec.{ltb, eqb}
 use Rattle.rules.specs.RoomAndSoundLedger.{M}
 use Rattle.rules.specs.SnapshotsMigrationCertificates.{tagged}
 use Rattle.records.specs.declared.Head.{Head}
-use Rattle.heads.specs.declared.Drawing.{Drawing}
-use Rattle.heads.specs.declared.Drawing.the-variants as drawing
+use Rattle.numbers.specs.declared.Drawing.{Drawing}
+use Rattle.numbers.specs.declared.Drawing.the-variants as drawing
 use Rattle.heads.specs.declared.Drawn.{Drawn}
 use Rattle.heads.specs.declared.Stamped.{Stamped}
 use Rattle.heads.specs.declared.Stamped.the-variants.{Next, AllocatorExhausted}

@@ -1,15 +1,11 @@
 // The three numbers of a ledger that stand apart from its tables: an id drawn and the baseline rotated in place, and what a snapshot stamps on them.
+use numbers::Drawing;
 use numbers::Identifier;
 use records::Head;
 ghost use Prim.Native.Nat.{_≤_};
 ghost use mathlib.Core.Path.{_≡_};
 ghost use Rattle.rules.specs.RoomAndSoundLedger.{M};
 ghost use Rattle.heads.specs.Heads.{identifierAt, nextAfter, drawnHead, stampedHead, sinceBaseline, larger, rotatedHead};
-
-pub enum Drawing {
-    Identifier(Identifier),
-    AllocatorExhausted,
-}
 
 pub struct Drawn {
     pub drawing: Drawing,

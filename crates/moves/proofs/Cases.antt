@@ -7,15 +7,18 @@ use mathlib.Core.Option.{Option, none, some}
 use Prim.Native.Nat.{ℕ, zero, suc, _+_, _-_, _^_, _≤_, _<_}
 use native.Mathlib.Omega.{arith}
 use borrow.Author.Tests.{eq-eqb, ne-eqb, lt-ltb, le-ltb, ltb-false}
-use lib.Dec.{ltb, eqb}
+use lib.Dec.{ltb}
 use lib.IntN.{ℤ, pos, negsuc, _-ℤ_}
 use lib.Signed.{ltZ, mag}
 use Rattle.rules.specs.RoomAndSoundLedger.{M, Account, seat, AddsUp}
 use Rattle.rules.specs.AnswerNumbers.{NegativeAmount, InvalidAmount, MissingTenant, OverflowOfReserve, OverflowOfCommit, OverflowOfTopUp, ExposureLimitExceeded, Insufficient, Overrun}
 use Rattle.rules.specs.AccountRules.{refuse, tell, write, lose, book, leave, end, account, natural, ensureRule, topUpRule, limitRule, reserveRule, commitRule, releaseRule}
 use Rattle.rules.proofs.Delta.{delta-exceeds, remaining-falls}
+use Rattle.numbers.specs.declared.Identifier.{Identifier}
+use Rattle.numbers.specs.declared.Drawing.{Drawing}
+use Rattle.numbers.specs.declared.Drawing.the-variants.{Identifier as TheIdentifier, AllocatorExhausted}
 use Rattle.moves.specs.declared.Seat.{Seat}
-use Rattle.moves.specs.Moves.{accountIn, accountOf, kept, keptSeat, SeatSound}
+use Rattle.moves.specs.Moves.{accountIn, accountOf, isUsedUp, kept, keptSeat, SeatSound}
 
 -- what a callee's answer says of the definition that its contract names
 pub told : {A : Type 0} {r t b : A} → r ≡ t → r ≡ b → t ≡ b
@@ -122,10 +125,6 @@ module _ (z : ℤ) (c : Option Account) (l : ℕ) where
 
 -- ── reserve ────────────────────────────────────────────────────────────────────────────────────
 
--- M as the code writes it
-abbrev pub codeM : ℕ
-codeM = 9223372036854775807
-
 -- a reserve that passes the checks before the one of the next id, and what reserved would be
 pub record Passes (s : Seat) (z : ℤ) (n reserved : ℕ) : Type 0 where
   pub asked : Asked s z n
@@ -168,16 +167,17 @@ module _ (last : Bool) where
     reserve-passes zero reserved p = absurd (p .asked .positive refl)
     reserve-passes (suc n) reserved p = rw (p .asked .amount, with-account s (p .asked .present), le-ltb M (s .reserved + suc n) (p .fits), ← p .sum, p .within)
 
-module _ (s : Seat) (z : ℤ) (n reserved next : ℕ) (passes : Passes s z n reserved) where
-  pub reserve-ids-used : next ≡ codeM → refuse (OverflowOfReserve (pos (s .reserved))) ≡ reserveRule z (eqb next M) (accountOf s) (s .limit)
-  reserve-ids-used h = rw (reserve-passes (eqb next M) s z n reserved passes, eq-eqb next M (unfold M in h))
+module _ (s : Seat) (z : ℤ) (n reserved : ℕ) (passes : Passes s z n reserved) (d : Drawing) where
+  pub reserve-ids-used : d ≡ AllocatorExhausted → refuse (OverflowOfReserve (s .reserved)) ≡ reserveRule z (isUsedUp d) (accountOf s) (s .limit)
+  reserve-ids-used e = rw (reserve-passes (isUsedUp d) s z n reserved passes, e)
 
-  pub reserve-insufficient : (next ≡ codeM → ⊥) → s .remaining < n → lose (Insufficient (pos (s .remaining)) (pos n)) ≡ reserveRule z (eqb next M) (accountOf s) (s .limit)
-  reserve-insufficient h short = rw (reserve-passes (eqb next M) s z n reserved passes, ne-eqb next M (unfold M in h), lt-ltb (s .remaining) n short)
+  module _ (id : Identifier) (drew : d ≡ TheIdentifier id) where
+    pub reserve-insufficient : s .remaining < n → lose (Insufficient (s .remaining) (pos n)) ≡ reserveRule z (isUsedUp d) (accountOf s) (s .limit)
+    reserve-insufficient short = rw (reserve-passes (isUsedUp d) s z n reserved passes, drew, lt-ltb (s .remaining) n short)
 
-  pub reserve-books : (next ≡ codeM → ⊥) → n ≤ s .remaining
-      → book (s .remaining - n) (seat (account (s .initial) (s .remaining - n) reserved (s .committed)) (s .limit)) n ≡ reserveRule z (eqb next M) (accountOf s) (s .limit)
-  reserve-books h enough = rw (reserve-passes (eqb next M) s z n reserved passes, ne-eqb next M (unfold M in h), le-ltb (s .remaining) n enough)
+    pub reserve-books : n ≤ s .remaining
+        → book (s .remaining - n) (seat (account (s .initial) (s .remaining - n) reserved (s .committed)) (s .limit)) n ≡ reserveRule z (isUsedUp d) (accountOf s) (s .limit)
+    reserve-books enough = rw (reserve-passes (isUsedUp d) s z n reserved passes, drew, le-ltb (s .remaining) n enough)
 
 -- ── commit ─────────────────────────────────────────────────────────────────────────────────────
 

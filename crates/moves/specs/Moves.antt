@@ -1,6 +1,6 @@
 -- What a place keeps of a name beside the name itself, and what each answer of a rule by value means as a move of the rules.
 use mathlib.Core.Path.{_≡_}
-use mathlib.Core.Bool.{cond}
+use mathlib.Core.Bool.{Bool, true, false, cond}
 use mathlib.Core.List.{[], _∷_}
 use mathlib.Core.Option.{Option, none, some}
 use Prim.Native.Nat.{ℕ, _≤_}
@@ -9,6 +9,8 @@ use lib.IntN.{ℤ, pos}
 use Rattle.rules.specs.RoomAndSoundLedger.{M, Account, Seat as RulesSeat, seat, AddsUp}
 use Rattle.rules.specs.AnswerNumbers.{NegativeAmount, InvalidAmount, MissingTenant, OverflowOfReserve, OverflowOfCommit, OverflowOfTopUp, ExposureLimitExceeded, Insufficient, Overrun}
 use Rattle.rules.specs.AccountRules.{Move, refuse, tell, write, lose, book, Settlement, leave, end}
+use Rattle.numbers.specs.declared.Drawing.{Drawing}
+use Rattle.numbers.specs.declared.Drawing.the-variants.{Identifier, AllocatorExhausted}
 use Rattle.moves.specs.declared.Seat.{Seat}
 use Rattle.moves.specs.declared.Ensuring.{Ensuring}
 use Rattle.moves.specs.declared.Ensuring.the-variants.{Negative, Present, Opened}
@@ -47,6 +49,11 @@ pub record SeatSound (s : Seat) : Type 0 where
   pub adds-up : AddsUp (accountOf s)
   pub limit : s .limit ≤ M
 
+-- document 01, Account rules, reserve: next id equal to M
+abbrev pub isUsedUp : Drawing → Bool
+isUsedUp (Identifier id) = false
+isUsedUp AllocatorExhausted = true
+
 -- ── what the answers mean ──────────────────────────────────────────────────────────────────────
 
 abbrev pub ensuringMove : ℤ → Ensuring → Move
@@ -67,10 +74,10 @@ limitingMove z (limiting.Changed s) = write [] (meaning s)
 abbrev pub reservingMove : ℤ → Reserving → Move
 reservingMove z reserving.NotPositive = refuse (Insufficient (pos 0) z)
 reservingMove z reserving.Missing = refuse MissingTenant
-reservingMove z (reserving.Overflow reserved) = refuse (OverflowOfReserve (pos reserved))
-reservingMove z (reserving.Exposed reserved limit) = refuse (ExposureLimitExceeded (pos reserved) (pos limit))
-reservingMove z (reserving.Insufficient remaining cost) = lose (Insufficient (pos remaining) (pos cost))
-reservingMove z (reserving.Booked s cost) = book (s .remaining) (meaning s) cost
+reservingMove z (reserving.Overflow reserved) = refuse (OverflowOfReserve reserved)
+reservingMove z (reserving.Exposed reserved limit) = refuse (ExposureLimitExceeded reserved limit)
+reservingMove z (reserving.Insufficient remaining cost) = lose (Insufficient remaining (pos cost))
+reservingMove z (reserving.Booked s cost id) = book (s .remaining) (meaning s) cost
 
 abbrev pub committingSettlement : ℤ → Committing → Settlement
 committingSettlement z committing.Invalid = leave InvalidAmount
@@ -83,7 +90,7 @@ abbrev pub releasingSettlement : (reserved : ℕ) → Releasing → Settlement
 releasingSettlement reserved releasing.Missing = leave MissingTenant
 releasingSettlement reserved (releasing.Returned s) = end (pos (s .remaining) ∷ pos reserved ∷ []) (meaning s)
 
--- ── a seat that is written is sound, in its one form ───────────────────────────────────────────
+-- ── a seat that is written is sound, in its one form; what is booked has the id drawn ──────────
 
 abbrev pub EnsuringSound : Ensuring → Type 0
 EnsuringSound Negative = Unit {0}
@@ -100,13 +107,13 @@ abbrev pub LimitingSound : Limiting → Type 0
 LimitingSound limiting.Negative = Unit {0}
 LimitingSound (limiting.Changed s) = SeatSound s
 
-abbrev pub ReservingSound : Reserving → Type 0
-ReservingSound reserving.NotPositive = Unit {0}
-ReservingSound reserving.Missing = Unit {0}
-ReservingSound (reserving.Overflow reserved) = Unit {0}
-ReservingSound (reserving.Exposed reserved limit) = Unit {0}
-ReservingSound (reserving.Insufficient remaining cost) = Unit {0}
-ReservingSound (reserving.Booked s cost) = SeatSound s
+abbrev pub ReservingSound : Drawing → Reserving → Type 0
+ReservingSound d reserving.NotPositive = Unit {0}
+ReservingSound d reserving.Missing = Unit {0}
+ReservingSound d (reserving.Overflow reserved) = Unit {0}
+ReservingSound d (reserving.Exposed reserved limit) = Unit {0}
+ReservingSound d (reserving.Insufficient remaining cost) = Unit {0}
+ReservingSound d (reserving.Booked s cost id) = SeatSound s × (d ≡ Identifier id)
 
 abbrev pub CommittingSound : Committing → Type 0
 CommittingSound committing.Invalid = Unit {0}

@@ -1,4 +1,6 @@
 // The account rules by value: what an airline has goes in, and what the rule decides comes out. No table is seen here.
+use numbers::Drawing;
+use numbers::Identifier;
 use numbers::Microcents;
 use numbers::Remainder;
 use numbers::Sign;
@@ -7,10 +9,9 @@ ghost use mathlib.Core.Path.{_≡_};
 ghost use mathlib.Core.Bool.{_&&_};
 ghost use mathlib.Core.Option.{some};
 ghost use Prim.Native.Nat.{_≤_, _<_};
-ghost use lib.Dec.{ltb, eqb};
-ghost use Rattle.rules.specs.RoomAndSoundLedger.{M};
+ghost use lib.Dec.{ltb};
 ghost use Rattle.rules.specs.AccountRules.{ensureRule, topUpRule, limitRule, reserveRule, commitRule, releaseRule};
-ghost use Rattle.moves.specs.Moves.{SeatSound, accountOf, ensuringMove, toppingUpMove, limitingMove, reservingMove, committingSettlement, releasingSettlement, EnsuringSound, ToppingUpSound, LimitingSound, ReservingSound, CommittingSound, ReleasingSound};
+ghost use Rattle.moves.specs.Moves.{SeatSound, accountOf, isUsedUp, ensuringMove, toppingUpMove, limitingMove, reservingMove, committingSettlement, releasingSettlement, EnsuringSound, ToppingUpSound, LimitingSound, ReservingSound, CommittingSound, ReleasingSound};
 
 // What a place keeps of a name beside the name: account is 1 with an account and 0 without one, and a limit of 0 is none.
 pub struct Seat {
@@ -40,14 +41,14 @@ pub enum Limiting {
     Changed(Seat),
 }
 
-// Insufficient draws an id all the same; the room for a booking is asked by the caller, last.
+// Insufficient uses the id up all the same; the room for a booking is asked by the caller, last.
 pub enum Reserving {
     NotPositive,
     Missing,
     Overflow(u64),
     Exposed(u64, u64),
     Insufficient(u64, u64),
-    Booked(Seat, u64),
+    Booked(Seat, u64, Identifier),
 }
 
 pub enum Committing {
@@ -136,10 +137,10 @@ fn exceeds(limit: u64, reserved: u64) -> bool
     0 < limit && limit < reserved
 }
 
-// Sets a cost aside. Whether the ids are used up is asked after the limit and before the balance, so that an insufficient one draws an id.
-pub fn reserve(seat: Seat, cost: Microcents, next_id: u64) -> Reserving
+// Sets a cost aside under the id drawn. Whether one was drawn is asked after the limit and before the balance, so that an insufficient one uses it up.
+pub fn reserve(seat: Seat, cost: Microcents, drawing: Drawing) -> Reserving
     requires { ⌜ SeatSound seat ⌝ }
-    ensures { λ r. ⌜ (reservingMove (cost .0) r ≡ reserveRule (cost .0) (eqb «next_id» M) (accountOf seat) (seat .limit)) × ReservingSound r ⌝ }
+    ensures { λ r. ⌜ (reservingMove (cost .0) r ≡ reserveRule (cost .0) (isUsedUp drawing) (accountOf seat) (seat .limit)) × ReservingSound drawing r ⌝ }
 {
     let Sign::Natural(asked) = numbers::sign_of(cost) else {
         return Reserving::NotPositive;
@@ -156,9 +157,9 @@ pub fn reserve(seat: Seat, cost: Microcents, next_id: u64) -> Reserving
     if exceeds(seat.limit, reserved) {
         return Reserving::Exposed(seat.reserved, seat.limit);
     }
-    if next_id == rules::M {
+    let Drawing::Identifier(id) = drawing else {
         return Reserving::Overflow(seat.reserved);
-    }
+    };
     if seat.remaining < asked {
         return Reserving::Insufficient(seat.remaining, asked);
     }
@@ -172,6 +173,7 @@ pub fn reserve(seat: Seat, cost: Microcents, next_id: u64) -> Reserving
             account: 1,
         },
         asked,
+        id,
     )
 }
 

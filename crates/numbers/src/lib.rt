@@ -11,6 +11,12 @@ ghost use Rattle.numbers.specs.Amounts.{sumOf, signOf, remainderOf};
 // What names a reservation.
 pub struct Identifier(pub u64);
 
+// What a draw of an id answers: the id, or that they are used up.
+pub enum Drawing {
+    Identifier(Identifier),
+    AllocatorExhausted,
+}
+
 // An amount of money as frames carry it: it may be negative.
 pub struct Microcents(pub i64);
 

@@ -4,23 +4,28 @@ use mathlib.Core.Bool.{true, false, cond}
 use mathlib.Core.List.{List, [], _∷_, _++_}
 use Prim.Native.Nat.{ℕ, _≤_, _<_}
 use native.Mathlib.Omega.{arith}
-use borrow.Author.Tests.{lt-ltb, le-ltb, eqb-false}
-use lib.Dec.{eqb}
+use borrow.Author.Tests.{lt-ltb, le-ltb, ltb-true, ltb-false, eq-eqb, ne-eqb, eqb-false}
+use lib.Dec.{ltb, eqb}
 use lib.IntN.{ℤ, pos}
 use lib.ListN.{length}
 use Rattle.rules.specs.RoomAndSoundLedger.{M, Name, Seat as RulesSeat, Place as RulesPlace, Ledger, withPlaces, withBookings, seatIn, hasAccount, holdsPlace, AddsUp, longestName}
 use Rattle.rules.specs.AnswerNumbers.{Amount, Identifier as TheIdentifier, Reply, done, NameTooLong, ReservationsFull, Insufficient, Refusal, replyOf, outcome, refused}
 use Rattle.rules.specs.AccountRules.{Move, refuse, book, reserveRule, nextIdIsM, reserve, operate, onName, perform, drawn, seated}
 use Rattle.rules.specs.Domain.{IsBytes, IsAmount}
+use Rattle.rules.proofs.Tests.{by-test}
 use Rattle.rules.proofs.Places.{seatIn-all, account-holds}
-use Rattle.moves.specs.Moves.{accountOf, meaning, keptSeat, SeatSound, reservingMove, ReservingSound}
+use Rattle.numbers.specs.declared.Identifier.{Identifier}
+use Rattle.numbers.specs.declared.Drawing.{Drawing}
+use Rattle.moves.specs.Moves.{accountOf, isUsedUp, meaning, keptSeat, SeatSound, reservingMove, ReservingSound}
 use Rattle.moves.specs.declared.Seat.{Seat}
 use Rattle.moves.specs.declared.Reserving.{Reserving}
 use Rattle.moves.specs.declared.Reserving.the-variants as reserving
 use Rattle.records.specs.declared.Place.{Place}
 use Rattle.records.specs.declared.Head.{Head}
 use Rattle.records.specs.Records.{headOf}
-use Rattle.heads.specs.Heads.{afterDraw}
+use Rattle.heads.specs.Heads.{identifierAt, afterDraw, drawnHead}
+use Rattle.heads.specs.declared.Drawn.{Drawn}
+use Rattle.heads.proofs.Draws.{old-next-id, head-drawn}
 use Rattle.room.specs.Contents.{contentsOf, usedPlaces, placeOfName, withHead, appendedBooking}
 use Rattle.room.specs.Room.{placeNumber, headIn, contentsIn, IsRoom, Performed}
 use Rattle.room.specs.Seats.{seatFound, withSeat}
@@ -38,10 +43,14 @@ use Rattle.reservations.proofs.Fitting.{MoveFits, reserve-fits}
 use Rattle.reservations.proofs.Performing.{stays, becomes}
 
 -- what a reserve is decided to be: the ledger's operation is that move
-pub record Decided (L : Ledger) (a : Name) (z : ℤ) (r : Reserving) : Type 0 where
+pub record Decided (L : Ledger) (a : Name) (z : ℤ) (d : Drawing) (r : Reserving) : Type 0 where
   pub move : operate L (reserve a z) ≡ perform L a (reservingMove z r)
   pub fits : MoveFits (nextIdIsM L) (seatIn a (L .places) .account) (reservingMove z r)
-  pub sound : ReservingSound r
+  pub sound : ReservingSound d r
+
+-- no id is drawn where the next id is M
+used-up : (n : ℕ) → n ≤ M → isUsedUp (identifierAt n) ≡ eqb n M
+used-up n small = by-test (λ d. isUsedUp d ≡ eqb n M) (ltb n M) (λ t. sym (ne-eqb n M (λ e. omega (arith, ltb-true n M t)))) (λ t. sym (eq-eqb n M (omega (arith, small, ltb-false n M t))))
 
 -- the ledger after a reserve that is granted
 abbrev bookedLedger : Ledger → Name → RulesSeat → ℕ → Ledger
@@ -101,16 +110,17 @@ module _ (xs : List ℕ) (L : Ledger) (room : IsRoom xs L) (a : Name) where
     pub too-long : longestName < length a → Performed (λ K. operate K (reserve a z)) L (replyOf NameTooLong) xs
     too-long long = stays (reserve a z) L xs room _ (replyOf NameTooLong) (unfold operate onName perform in rw (lt-ltb longestName (length a) long)) refl
 
-    abbrev ruleAt : Seat → ℕ → Move
-    ruleAt s n = reserveRule z (eqb n M) (accountOf s) (s .limit)
+    abbrev ruleAt : Seat → Drawing → Move
+    ruleAt s d = reserveRule z (isUsedUp d) (accountOf s) (s .limit)
 
     pub decides : length a ≤ longestName → (f : Found) → f ≡ placeOfName a searched → (s : Seat) → s ≡ seatFound f searched → (h : Head) → h ≡ headOf xs
-        → (r : Reserving) → reservingMove z r ≡ ruleAt s (h .«next_id») → ReservingSound r → Decided L a z r
-    decides short f e s q h k r m sound =
+        → (w : Drawn) → w ≡ drawnHead h → (r : Reserving) → reservingMove z r ≡ ruleAt s (w .drawing) → ReservingSound (w .drawing) r → Decided L a z (w .drawing) r
+    decides short f e s q h k w drew r m sound =
         let own : RulesSeat = seatIn a ps in
         let rule : Move = reserveRule z (nextIdIsM L) (own .account) (own .limit) in
         let is : reservingMove z r ≡ rule =
-        m ∙ ap (λ t. ruleAt t (h .«next_id»)) (seat-is f e s q) ∙ ap (λ (g : Head). ruleAt (keptSeat own) (g .«next_id»)) (k ∙ head-is xs L room)
+        m ∙ ap₂ (λ t (d : Drawn). ruleAt t (d .drawing)) (seat-is f e s q) (drew ∙ ap drawnHead (k ∙ head-is xs L room))
+        ∙ ap (λ b. reserveRule z b (accountOf (keptSeat own)) (keptSeat own .limit)) (used-up (L .nextId) (room .sound .next-id .1))
         ∙ ap₂ (λ c l. reserveRule z (nextIdIsM L) c l) (kept-account own) (kept-limit own) in
         let named : operate L (reserve a z) ≡ perform L a rule = unfold operate onName in rw (le-ltb longestName (length a) short) in
         record {
@@ -121,31 +131,36 @@ module _ (xs : List ℕ) (L : Ledger) (room : IsRoom xs L) (a : Name) where
         }
 
     -- a refusal
-    pub refuses : (e : Refusal) (r : Reserving) → Decided L a z r → reservingMove z r ≡ refuse e → (t : Reply) → t ≡ replyOf e → Performed (λ K. operate K (reserve a z)) L t xs
-    refuses e r d m t q = stays (reserve a z) L xs room t (replyOf e) (d .move ∙ ap (perform L a) m ∙ (unfold perform in refl)) q
+    pub refuses : (e : Refusal) (d : Drawing) (r : Reserving) → Decided L a z d r → reservingMove z r ≡ refuse e → (t : Reply) → t ≡ replyOf e → Performed (λ K. operate K (reserve a z)) L t xs
+    refuses e _ r d m t q = stays (reserve a z) L xs room t (replyOf e) (d .move ∙ ap (perform L a) m ∙ (unfold perform in refl)) q
 
-    module _ (bytes : IsBytes a) (amount : IsAmount z) (h : Head) (loaded : h ≡ headOf xs) where
+    module _ (bytes : IsBytes a) (amount : IsAmount z) (h : Head) (loaded : h ≡ headOf xs) (w : Drawn) (drew : w ≡ drawnHead h) where
+      -- the head after the draw, where an id was left
+      after : nextIdIsM L ≡ false → w .head ≡ headIn (drawn L)
+      after left = ap (λ (d : Drawn). d .head) drew ∙ head-drawn h (next-below h loaded left) ∙ ap afterDraw (loaded ∙ head-is xs L room)
+
       -- an id drawn and lost
-      pub loses : (remaining cost : ℕ) → Decided L a z (reserving.Insufficient remaining cost) → (t : Reply) → t ≡ replyOf (Insufficient (pos remaining) (pos cost))
-          → (ys : List ℕ) → length ys ≡ length xs → contentsOf ys ≡ withHead (afterDraw h) (contentsOf xs) → Performed (λ K. operate K (reserve a z)) L t ys
+      pub loses : (remaining cost : ℕ) → Decided L a z (w .drawing) (reserving.Insufficient remaining cost) → (t : Reply) → t ≡ replyOf (Insufficient remaining (pos cost))
+          → (ys : List ℕ) → length ys ≡ length xs → contentsOf ys ≡ withHead (w .head) (contentsOf xs) → Performed (λ K. operate K (reserve a z)) L t ys
       loses remaining cost d t q ys l k =
-          becomes (reserve a z) L xs room (bytes, amount) t (replyOf (Insufficient (pos remaining) (pos cost))) (drawn L) (d .move ∙ (unfold perform in refl)) q refl refl ys l
-          (k ∙ ap₂ (λ g c. withHead (afterDraw g) c) (loaded ∙ head-is xs L room) (room .holds) ∙ id-drawn L)
+          becomes (reserve a z) L xs room (bytes, amount) t (replyOf (Insufficient remaining (pos cost))) (drawn L) (d .move ∙ (unfold perform in refl)) q refl refl ys l
+          (k ∙ ap₂ withHead (after (d .fits .1)) (room .holds) ∙ id-drawn L)
 
-      pub books : (s : Seat) (cost : ℕ) → Decided L a z (reserving.Booked s cost) → (i : ℕ) → At i ≡ placeOfName a searched → {r : Reserved} {ys : List ℕ} → Booked i s cost h xs r ys → Performed (λ K. operate K (reserve a z)) L (reservedReply r) ys
+      pub books : (s : Seat) (cost : ℕ) (id : Identifier) → Decided L a z (w .drawing) (reserving.Booked s cost id) → (i : ℕ) → At i ≡ placeOfName a searched → {r : Reserved} {ys : List ℕ} → Booked i s cost id (w .head) xs r ys → Performed (λ K. operate K (reserve a z)) L (reservedReply r) ys
       unfolding contentsIn
-      books s cost d i e (granted remaining id ys left p q l k) =
+      books s cost id d i e (granted remaining ys left p l k) =
           let n : i ≡ placeNumber a ps = number-is (d .fits .1) i e in
-          let g : h ≡ headIn L = loaded ∙ head-is xs L room in
+          let g : w .head ≡ headIn (drawn L) = after (d .fits .0) in
+          let is-next : id .0 ≡ L .nextId = old-next-id (h .«next_id») id (sym (ap (λ (u : Drawn). u .drawing) drew) ∙ d .sound .1) ∙ ap (λ (f : Head). f .«next_id») (loaded ∙ head-is xs L room) in
           let live : contentsOf xs .sizes .live ≡ length (L .bookings) = ap (λ c. c .sizes .live) (room .holds) in
           let most : contentsOf xs .sizes .reservations ≡ L .R = ap (λ c. c .sizes .reservations) (room .holds) in
           let fits : length (L .bookings) < L .R = omega arith in
-          let stepped : withHead (afterDraw h) (appendedBooking (record { id = h .«next_id»; amount = cost; owner = i }) (withSeat i s (contentsOf xs)))
+          let stepped : withHead (w .head) (appendedBooking (record { id = id .0; amount = cost; owner = i }) (withSeat i s (contentsOf xs)))
           ≡ withHead (headIn (drawn L)) (appendedBooking (record { id = L .nextId; amount = cost; owner = placeNumber a ps }) (withSeat (placeNumber a ps) s (contentsIn L)))
-          = (λ j. withHead (afterDraw (g j)) (appendedBooking (record { id = g j .«next_id»; amount = cost; owner = n j }) (withSeat (n j) s (room .holds j)))) in
-          becomes (reserve a z) L xs room (bytes, amount) _ (grantedReply (pos (s .remaining)) (L .nextId)) (bookedLedger L a (meaning s) cost) (d .move ∙ performed-booking L a (s .remaining) (meaning s) cost fits) (ap₂ grantedReply p (q ∙ ap (λ (f : Head). f .«next_id») g)) refl refl ys l
-          (k ∙ stepped ∙ booked-contents L (room .sound) a s (d .sound) (d .fits .2) (holds (d .fits .1)) cost fits)
-      books s cost d i e (full n) =
+          = (λ j. withHead (g j) (appendedBooking (record { id = is-next j; amount = cost; owner = n j }) (withSeat (n j) s (room .holds j)))) in
+          becomes (reserve a z) L xs room (bytes, amount) _ (grantedReply (pos (s .remaining)) (L .nextId)) (bookedLedger L a (meaning s) cost) (d .move ∙ performed-booking L a (s .remaining) (meaning s) cost fits) (ap₂ grantedReply p is-next) refl refl ys l
+          (k ∙ stepped ∙ booked-contents L (room .sound) a s (d .sound .0) (d .fits .2) (holds (d .fits .1)) cost fits)
+      books s cost id d i e (full n) =
           let live : contentsOf xs .sizes .live ≡ length (L .bookings) = ap (λ c. c .sizes .live) (room .holds) in
           let most : contentsOf xs .sizes .reservations ≡ L .R = ap (λ c. c .sizes .reservations) (room .holds) in
           stays (reserve a z) L xs room _ (replyOf ReservationsFull) (d .move ∙ performed-full L a (s .remaining) (meaning s) cost (omega arith)) refl

@@ -1,4 +1,4 @@
--- What booking makes of a room: an id is drawn, and a reservation granted under the one before, unless R are live. And what a settlement asks of a
+-- What booking makes of a room: a reservation is granted under the id that was drawn, and the head after the draw kept, unless R are live. And what a settlement asks of a
 -- live reservation.
 use mathlib.Core.Path.{_≡_}
 use mathlib.Core.List.{List, []}
@@ -11,7 +11,6 @@ use Rattle.numbers.specs.declared.Identifier.{Identifier}
 use Rattle.moves.specs.declared.Seat.{Seat}
 use Rattle.moves.specs.Moves.{keptSeat}
 use Rattle.records.specs.declared.Head.{Head}
-use Rattle.heads.specs.Heads.{afterDraw}
 use Rattle.room.specs.Contents.{contentsOf, withHead, appendedBooking}
 use Rattle.room.specs.Room.{placeNumber}
 use Rattle.room.specs.Seats.{withSeat}
@@ -19,12 +18,12 @@ use Rattle.reservations.specs.declared.Due.{Due}
 use Rattle.reservations.specs.declared.Reserved.{Reserved}
 use Rattle.reservations.specs.declared.Reserved.the-variants.{Granted, ReservationsFull}
 
-pub data Booked (i : ℕ) (s : Seat) (cost : ℕ) (h : Head) (xs : List ℕ) : Reserved → List ℕ → Type 0 where
-  granted : (remaining : Microcents) (id : Identifier) (ys : List ℕ) → contentsOf xs .sizes .live < contentsOf xs .sizes .reservations
-      → remaining .0 ≡ pos (s .remaining) → id .0 ≡ h .«next_id» → length ys ≡ length xs
-      → contentsOf ys ≡ withHead (afterDraw h) (appendedBooking (record { id = h .«next_id»; amount = cost; owner = i }) (withSeat i s (contentsOf xs)))
-      → Booked i s cost h xs (Granted remaining id) ys
-  full : contentsOf xs .sizes .live ≡ contentsOf xs .sizes .reservations → Booked i s cost h xs ReservationsFull xs
+pub data Booked (i : ℕ) (s : Seat) (cost : ℕ) (id : Identifier) (h : Head) (xs : List ℕ) : Reserved → List ℕ → Type 0 where
+  granted : (remaining : Microcents) (ys : List ℕ) → contentsOf xs .sizes .live < contentsOf xs .sizes .reservations
+      → remaining .0 ≡ pos (s .remaining) → length ys ≡ length xs
+      → contentsOf ys ≡ withHead h (appendedBooking (record { id = id .0; amount = cost; owner = i }) (withSeat i s (contentsOf xs)))
+      → Booked i s cost id h xs (Granted remaining id) ys
+  full : contentsOf xs .sizes .live ≡ contentsOf xs .sizes .reservations → Booked i s cost id h xs ReservationsFull xs
 
 abbrev pub noBooking : RulesBooking
 noBooking = record { id = 0; name = []; amount = 0 }

@@ -15,8 +15,7 @@ ghost use Prim.Native.Nat.{_≤_, _<_};
 ghost use Rattle.rules.specs.RoomAndSoundLedger.{M};
 ghost use Rattle.rules.specs.AnswerNumbers.{Refusal, replyOf};
 ghost use Rattle.rules.specs.AccountRules.{leave, commitRule, reserve, commit, release, operate};
-ghost use Rattle.heads.specs.Heads.{afterDraw};
-ghost use Rattle.room.specs.Contents.{contentsOf, Sized, withHead, removedBooking};
+ghost use Rattle.room.specs.Contents.{contentsOf, Sized, removedBooking};
 ghost use Rattle.room.specs.Room.{SoundRoom, Performs, OfRoom};
 ghost use Rattle.room.specs.Seats.{withSeat};
 ghost use Rattle.tables.specs.Steps.{Becomes};
@@ -59,19 +58,11 @@ struct Due {
     seat: Seat,
 }
 
-// An id is drawn: next id grows by 1. A reserve that finds next id M is refused before, so that an id is left here.
-fn draw(room: &mut [u8], head: Head)
-    requires { ⌜ Sized (now room) × (head .«next_id» < M) ⌝ }
-    ensures { λ _. ⌜ Becomes (withHead (afterDraw head)) (now (room .entry)) (now (room .exit)) ⌝ }
-{
-    let drawn = heads::after_draw(head);
-    tables::put_head(room, drawn.head);
-}
-
-// Document 01, Account rules, reserve, its last two answers: a full table refuses before an id is drawn; else the booking has next id as it stood.
-fn book(room: &mut [u8], i: usize, seat: Seat, cost: u64, head: Head) -> Reserved
-    requires { ⌜ Sized (now room) × (i < contentsOf (now room) .sizes .used) × (seat .remaining ≤ M) × (head .«next_id» < M) ⌝ }
-    ensures { λ r. ⌜ Booked i seat cost head (now (room .entry)) r (now (room .exit)) ⌝ }
+// Document 01, Account rules, reserve, its last two answers: a full table refuses, and the id is not used up; else the booking has the id, and the head
+// after the draw is kept.
+fn book(room: &mut [u8], i: usize, seat: Seat, cost: u64, id: Identifier, head: Head) -> Reserved
+    requires { ⌜ Sized (now room) × (i < contentsOf (now room) .sizes .used) × (seat .remaining ≤ M) ⌝ }
+    ensures { λ r. ⌜ Booked i seat cost id head (now (room .entry)) r (now (room .exit)) ⌝ }
 {
     let sizes = records::load_sizes(room);
     if sizes.live == sizes.reservations {
@@ -81,13 +72,13 @@ fn book(room: &mut [u8], i: usize, seat: Seat, cost: u64, head: Head) -> Reserve
     tables::append_booking(
         room,
         Booking {
-            id: head.next_id,
+            id: id.0,
             amount: cost,
             owner: i as u64,
         },
     );
-    draw(room, head);
-    Reserved::Granted(numbers::amount(seat.remaining), Identifier(head.next_id))
+    tables::put_head(room, head);
+    Reserved::Granted(numbers::amount(seat.remaining), id)
 }
 
 pub fn reserve(room: &mut [u8], part: &[u8], cost: Microcents) -> Reserved
@@ -100,7 +91,9 @@ pub fn reserve(room: &mut [u8], part: &[u8], cost: Microcents) -> Reserved
     let found = lookup::find(room, part);
     let seat = seats::seat_at(room, found);
     let head = records::load_head(room);
-    let decided = moves::reserve(seat, cost, head.next_id);
+    let drawn = heads::after_draw(head);
+    let drawing = drawn.drawing;
+    let decided = moves::reserve(seat, cost, drawing);
     match decided {
         Reserving::NotPositive => Reserved::Insufficient(numbers::amount(0), cost),
         Reserving::Missing => Reserved::MissingTenant,
@@ -110,14 +103,14 @@ pub fn reserve(room: &mut [u8], part: &[u8], cost: Microcents) -> Reserved
             numbers::amount(limit),
         ),
         Reserving::Insufficient(remaining, asked) => {
-            draw(room, head);
+            tables::put_head(room, drawn.head);
             Reserved::Insufficient(numbers::amount(remaining), numbers::amount(asked))
         }
-        Reserving::Booked(booked, asked) => {
+        Reserving::Booked(booked, asked, id) => {
             let Found::At(i) = found else {
                 return Reserved::MissingTenant;
             };
-            book(room, i, booked, asked, head)
+            book(room, i, booked, asked, id, drawn.head)
         }
     }
 }

@@ -36,11 +36,11 @@ use Rattle.records.specs.declared.Head.{Head}
 use Rattle.records.proofs.Head as T
 use Rattle.records.proofs.Head.Laws as T′
 use Rattle.heads.specs.Heads.{drawnHead}
-use Rattle.heads.specs.declared.Drawing.{Drawing}
+use Rattle.numbers.specs.declared.Drawing.{Drawing}
 use Rattle.heads.specs.declared.Drawn.{Drawn}
 use Rattle.heads.proofs.InPlace.{machine, IsHead, to-local, head-and, asks-lent, leaves, typed, calls-lending}
-use Rattle.heads.proofs.Drawing as D
-use Rattle.heads.proofs.Drawing.Laws as D′
+use Rattle.numbers.proofs.Drawing as D
+use Rattle.numbers.proofs.Drawing.Laws as D′
 use Rattle.heads.proofs.Drawn as B
 use Rattle.heads.proofs.Drawn.Laws as B′
 use Rattle.heads.proofs.draw as draw

@@ -39,10 +39,10 @@ use denote.Triple.Walked.{says, Stays, stay-ref, walkOf, goes-ref, ends-at, walk
 use Rattle.records.specs.declared.Head.{Head}
 use Rattle.records.proofs.Head as T
 use Rattle.heads.specs.Heads.{identifierAt, nextAfter, withNextId}
-use Rattle.heads.specs.declared.Drawing.{Drawing}
+use Rattle.numbers.specs.declared.Drawing.{Drawing}
 use Rattle.heads.proofs.InPlace.{coded, Behind, opens-head, closes-head, one-number, asks, leaves-lent, calls-covered}
-use Rattle.heads.proofs.Drawing as D
-use Rattle.heads.proofs.Drawing.Laws as D′
+use Rattle.numbers.proofs.Drawing as D
+use Rattle.numbers.proofs.Drawing.Laws as D′
 use Rattle.heads.proofs.identifier_at as identifier-at
 use Rattle.heads.proofs.identifier_at.Symbol as identifier-at-def
 use Rattle.heads.proofs.identifier_at.Symbol.{name as #heads·identifier-at}

@@ -55,19 +55,20 @@ passes c =
     record { asked = is-asked (summed .before .before .before .before); sum = sum .0; fits = sum .1; within = told (c .before .exceeds .ensures) (c .if3 .left) }
 
 returns-6 : tie.Need-returns-6
-returns-6 c = (reserve-ids-used _ _ _ _ _ (passes (c .before)) (c .if4 .taken), tt)
+returns-6 c = (reserve-ids-used _ _ _ _ (passes (c .before .before)) _ (c .enum-told3 .given .1), tt)
 
 returns-7 : tie.Need-returns-7
-returns-7 c = let ids = c .before .before in (reserve-insufficient _ _ _ _ _ (passes (ids .before)) (ids .if4 .left) (c .if5 .taken), tt)
+returns-7 c =
+    let drew = c .before .before .before in
+    (reserve-insufficient _ _ _ _ (passes (drew .before .before)) _ _ (drew .drawing .given .1) (c .if4 .taken), tt)
 
 returns-8 : tie.Need-returns-8
 returns-8 c =
-    let ids = c .before .before .before in
-    let summed = ids .before .before .before in
-    let sum = sum-is summed in
+    let drew = c .before .before .before .before in
+    let summed = drew .before .before .before .before in
     let h = adds-up (summed .before .before .before .before) in (
-      reserve-books _ _ _ _ _ (passes (ids .before)) (ids .if4 .left) (c .before .if5 .left),
-      account-sound _ _ _ _ _ (omega (arith, c .before .if5 .left)) (h .1) (entry summed .pre .limit),
+      reserve-books _ _ _ _ (passes (drew .before .before)) _ _ (drew .drawing .given .1) (c .before .if4 .left),
+      (account-sound _ _ _ _ _ (omega (arith, sum-is summed, c .before .if4 .left)) (h .1) (entry summed .pre .limit), drew .drawing .given .1),
     )
 
 pub reserve-spec : {M : Type 1} → statement M
@@ -86,6 +87,8 @@ reserve-spec =
     returns-4
     (λ c κs. search needs)
     returns-5
+    (λ c. search needs)
+    (λ c. search needs)
     returns-6
     returns-7
     returns-8)
