@@ -18,7 +18,7 @@ use Rattle.lookup.proofs.FirstPlace.{firstPlace, FirstIs, first-is, fir
 use Rattle.lookup.proofs.Halving.{Divides}
 
 abbrev pub hasId : ℕ → Booking → Bool
-hasId id b = eqb id (b .id)
+hasId id b = eqb id (b .id .0)
 
 module _ (id : ℕ) where
   booking-first : (bs : List Booking) → bookingOfId id bs ≡ firstPlace (hasId id) bs
@@ -33,23 +33,23 @@ module _ (id : ℕ) where
   pub booking-only : (d : Booking) (bs : List Booking) (r : Found) → FirstIs (hasId id) d bs r → r ≡ bookingOfId id bs
   booking-only d bs r h = rw booking-first (first-only (hasId id) d bs r h)
 
-  pub booking-found : (d : Booking) (bs : List Booking) (i : ℕ) → bookingOfId id bs ≡ At i → (i < length bs) × (getD bs i d .id ≡ id)
+  pub booking-found : (d : Booking) (bs : List Booking) (i : ℕ) → bookingOfId id bs ≡ At i → (i < length bs) × (getD bs i d .id .0 ≡ id)
   booking-found d bs i e =
       let (h, t, k) = subst (FirstIs (hasId id) d bs) e (booking-is d bs) in
-      (h, sym (eqb-true id (getD bs i d .id) t))
+      (h, sym (eqb-true id (getD bs i d .id .0) t))
 
-  pub booking-absent : (bs : List Booking) → bookingOfId id bs ≡ Absent → All (λ b. b .id ≢ id) bs
+  pub booking-absent : (bs : List Booking) → bookingOfId id bs ≡ Absent → All (λ b. b .id .0 ≢ id) bs
   booking-absent bs e =
-      all-map (λ b. hasId id b ≡ false) (λ b. b .id ≢ id) (λ b h q. eqb-false id (b .id) h (sym q)) bs
+      all-map (λ b. hasId id b ≡ false) (λ b. b .id .0 ≢ id) (λ b h q. eqb-false id (b .id .0) h (sym q)) bs
       (subst (FirstIs (hasId id) emptyBooking bs) e (booking-is emptyBooking bs))
 
   -- ids that ascend divide at the one sought
-  pub ids-divide : Divides (λ b c. b .id < c .id) (hasId id) (λ b. b .id < id) (λ b. id < b .id)
+  pub ids-divide : Divides (λ b c. b .id .0 < c .id .0) (hasId id) (λ b. b .id .0 < id) (λ b. id < b .id .0)
   ids-divide =
       record {
         lower = λ b c l h. omega arith;
         higher = λ b c l h. omega arith;
-        at = λ b c l t. omega (arith, eqb-true id (c .id) t);
-        below = λ b h. ne-eqb id (b .id) (λ e. omega arith);
-        above = λ b h. ne-eqb id (b .id) (λ e. omega arith);
+        at = λ b c l t. omega (arith, eqb-true id (c .id .0) t);
+        below = λ b h. ne-eqb id (b .id .0) (λ e. omega arith);
+        above = λ b h. ne-eqb id (b .id .0) (λ e. omega arith);
       }

@@ -1,5 +1,6 @@
 // Look-up in the tables of a room: a name's place, the place for a new name, a live booking by its id.
 use names::Order;
+use numbers::Identifier;
 use room::Found;
 ghost use Prim.Native.Nat.{_+_, _*_, _≤_, _<_};
 ghost use mathlib.Core.Path.{_≡_};
@@ -57,9 +58,9 @@ pub fn place_for(room: &[u8], part: &[u8]) -> usize
 }
 
 // A live booking by its id, by halving: ids ascend.
-pub fn find_booking(room: &[u8], id: u64) -> Found
+pub fn find_booking(room: &[u8], id: Identifier) -> Found
     requires { ⌜ Searchable (now room) ⌝ }
-    ensures { λ r. ⌜ r ≡ bookingOfId id (liveBookings (contentsOf (now (room .entry)))) ⌝ }
+    ensures { λ r. ⌜ r ≡ bookingOfId (id .0) (liveBookings (contentsOf (now (room .entry)))) ⌝ }
 {
     let sizes = records::load_sizes(room);
     let base = records::HEAD_SIZE + records::PLACE_SIZE * (sizes.names as usize);
@@ -68,10 +69,10 @@ pub fn find_booking(room: &[u8], id: u64) -> Found
     while low < high {
         let middle = (low + high) / 2;
         let booking = records::load_booking(room, base, middle);
-        if booking.id == id {
+        if booking.id.0 == id.0 {
             return Found::At(middle);
         }
-        if booking.id < id {
+        if booking.id.0 < id.0 {
             low = middle + 1;
         } else {
             high = middle;

@@ -77,7 +77,7 @@ reservingMove z reserving.Missing = refuse MissingTenant
 reservingMove z (reserving.Overflow reserved) = refuse (OverflowOfReserve reserved)
 reservingMove z (reserving.Exposed reserved limit) = refuse (ExposureLimitExceeded reserved limit)
 reservingMove z (reserving.Insufficient remaining cost) = lose (Insufficient remaining (pos cost))
-reservingMove z (reserving.Booked s cost id) = book (s .remaining) (meaning s) cost
+reservingMove z (reserving.Booked s cost id) = book (s .remaining) (meaning s) (cost .0)
 
 abbrev pub committingSettlement : ℤ → Committing → Settlement
 committingSettlement z committing.Invalid = leave InvalidAmount

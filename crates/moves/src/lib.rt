@@ -1,5 +1,6 @@
 // The account rules by value: what an airline has goes in, and what the rule decides comes out. No table is seen here.
 use numbers::Drawing;
+use numbers::Held;
 use numbers::Identifier;
 use numbers::Microcents;
 use numbers::Remainder;
@@ -48,7 +49,7 @@ pub enum Reserving {
     Overflow(u64),
     Exposed(u64, u64),
     Insufficient(u64, u64),
-    Booked(Seat, u64, Identifier),
+    Booked(Seat, Held, Identifier),
 }
 
 pub enum Committing {
@@ -172,15 +173,15 @@ pub fn reserve(seat: Seat, cost: Microcents, drawing: Drawing) -> Reserving
             limit: seat.limit,
             account: 1,
         },
-        asked,
+        Held(asked),
         id,
     )
 }
 
 // Spends what was booked, more or less of it: delta is taken from what remains, or given back where it is negative.
-pub fn commit(seat: Seat, booked: u64, actual: Microcents) -> Committing
-    requires { ⌜ SeatSound seat × (booked ≤ seat .reserved) ⌝ }
-    ensures { λ r. ⌜ (committingSettlement (actual .0) r ≡ commitRule (actual .0) (some booked) (accountOf seat) (seat .limit)) × CommittingSound r ⌝ }
+pub fn commit(seat: Seat, booked: Held, actual: Microcents) -> Committing
+    requires { ⌜ SeatSound seat × (booked .0 ≤ seat .reserved) ⌝ }
+    ensures { λ r. ⌜ (committingSettlement (actual .0) r ≡ commitRule (actual .0) (some (booked .0)) (accountOf seat) (seat .limit)) × CommittingSound r ⌝ }
 {
     let Sign::Natural(spent) = numbers::sign_of(actual) else {
         return Committing::Invalid;
@@ -191,14 +192,14 @@ pub fn commit(seat: Seat, booked: u64, actual: Microcents) -> Committing
     let Sum::Fits(committed) = numbers::plus(seat.committed, spent) else {
         return Committing::Overflow(seat.remaining);
     };
-    let delta = numbers::delta(spent, booked);
+    let delta = numbers::delta(spent, booked.0);
     let Remainder::Left(remaining) = numbers::less_delta(seat.remaining, delta) else {
         return Committing::Overrun(seat.remaining);
     };
     Committing::Ended(Seat {
         initial: seat.initial,
         remaining,
-        reserved: seat.reserved - booked,
+        reserved: seat.reserved - booked.0,
         committed,
         limit: seat.limit,
         account: 1,
@@ -206,17 +207,17 @@ pub fn commit(seat: Seat, booked: u64, actual: Microcents) -> Committing
 }
 
 // Gives back what was booked.
-pub fn release(seat: Seat, booked: u64) -> Releasing
-    requires { ⌜ SeatSound seat × (booked ≤ seat .reserved) ⌝ }
-    ensures { λ r. ⌜ (releasingSettlement booked r ≡ releaseRule (some booked) (accountOf seat) (seat .limit)) × ReleasingSound r ⌝ }
+pub fn release(seat: Seat, booked: Held) -> Releasing
+    requires { ⌜ SeatSound seat × (booked .0 ≤ seat .reserved) ⌝ }
+    ensures { λ r. ⌜ (releasingSettlement (booked .0) r ≡ releaseRule (some (booked .0)) (accountOf seat) (seat .limit)) × ReleasingSound r ⌝ }
 {
     if seat.account == 0 {
         return Releasing::Missing;
     }
     Releasing::Returned(Seat {
         initial: seat.initial,
-        remaining: seat.remaining + booked,
-        reserved: seat.reserved - booked,
+        remaining: seat.remaining + booked.0,
+        reserved: seat.reserved - booked.0,
         committed: seat.committed,
         limit: seat.limit,
         account: 1,

@@ -20,6 +20,9 @@ pub enum Drawing {
 // An amount of money as frames carry it: it may be negative.
 pub struct Microcents(pub i64);
 
+// An amount that a reservation holds: it is never negative.
+pub struct Held(pub u64);
+
 // A sum of two amounts, which may not be above M.
 pub enum Sum {
     Fits(u64),

@@ -13,7 +13,7 @@ use Rattle.records.specs.declared.Booking.{Booking}
 use Rattle.records.specs.declared.Head.{Head}
 use Rattle.records.specs.declared.Sizes.{Sizes}
 use Rattle.records.specs.Rows.{row, fieldBytes}
-use Rattle.records.specs.Records.{placeOf, placeNumbers, placeBytes, PlaceFits, bookingOf, bookingNumbers, bookingBytes, BookingFits, headOf, headNumbers, headBytes, HeadFits, sizesOf, pairBytes, SizesFit}
+use Rattle.records.specs.Records.{placeOf, placeNumbers, placeBytes, PlaceFits, booking, bookingOf, bookingNumbers, bookingBytes, BookingFits, headOf, headNumbers, headBytes, HeadFits, sizesOf, pairBytes, SizesFit}
 use Rattle.records.proofs.Rows.{row-length, row-join}
 use Rattle.records.proofs.Fields.{Fit, fields, fields-length, fields-read, bytes-of-fields, fields-fit}
 
@@ -70,7 +70,7 @@ pub booking-length : (b : Booking) → length (bookingBytes b) ≡ bookingSize
 booking-length b = fields-length bookingWidths (bookingNumbers b) refl
 
 bookingFrom : List ℕ → Booking
-bookingFrom ns = record { id = getD ns 0 0; amount = getD ns 1 0; owner = getD ns 2 0 }
+bookingFrom ns = booking (getD ns 0 0) (getD ns 1 0) (getD ns 2 0)
 
 pub booking-of-bytes : (b : Booking) → BookingFits b → bookingOf (bookingBytes b) ≡ b
 unfolding bookingFrom

@@ -44,18 +44,21 @@ pub record PlaceFits (p : Place) : Type 0 where
 
 -- ── a booking ──────────────────────────────────────────────────────────────────────────────────
 
+abbrev pub booking : (id amount owner : ℕ) → Booking
+booking id amount owner = record { id = record { 0 = id }; amount = record { 0 = amount }; owner = owner }
+
 abbrev pub bookingOf : List ℕ → Booking
-bookingOf w = record { id = littleNumber (row 8 0 w); amount = littleNumber (row 8 amountOffset w); owner = littleNumber (row 2 ownerOffset w) }
+bookingOf w = booking (littleNumber (row 8 0 w)) (littleNumber (row 8 amountOffset w)) (littleNumber (row 2 ownerOffset w))
 
 abbrev pub bookingNumbers : Booking → List ℕ
-bookingNumbers b = b .id ∷ b .amount ∷ b .owner ∷ []
+bookingNumbers b = b .id .0 ∷ b .amount .0 ∷ b .owner ∷ []
 
 abbrev pub bookingBytes : Booking → List ℕ
 bookingBytes b = fieldBytes bookingWidths (bookingNumbers b)
 
 pub record BookingFits (b : Booking) : Type 0 where
-  pub id : b .id < 2 ^ 64
-  pub amount : b .amount < 2 ^ 64
+  pub id : b .id .0 < 2 ^ 64
+  pub amount : b .amount .0 < 2 ^ 64
   pub owner : b .owner < 2 ^ 16
 
 -- ── the head ───────────────────────────────────────────────────────────────────────────────────

@@ -1,5 +1,7 @@
 // Fixed-width records in one lent slice of bytes: a head, places, bookings. Where each field starts is said once, in the constants below.
 use names::Name;
+use numbers::Held;
+use numbers::Identifier;
 ghost use Prim.Native.Nat.{_+_, _*_, _^_, _≤_, _<_};
 ghost use mathlib.Core.Path.{_≡_};
 ghost use lib.ListN.{length};
@@ -76,8 +78,8 @@ pub struct Place {
 
 // A live reservation. Its owner is the number of its airline's place, so that settling needs no search for the name.
 pub struct Booking {
-    pub id: u64,
-    pub amount: u64,
+    pub id: Identifier,
+    pub amount: Held,
     pub owner: u64,
 }
 
@@ -161,8 +163,8 @@ fn read_booking(part: &[u8]) -> Booking
     ensures { λ r. ⌜ r ≡ bookingOf (now (part .entry)) ⌝ }
 {
     Booking {
-        id: numbers::read8(&part[ID_OFFSET..AMOUNT_OFFSET]),
-        amount: numbers::read8(&part[AMOUNT_OFFSET..OWNER_OFFSET]),
+        id: Identifier(numbers::read8(&part[ID_OFFSET..AMOUNT_OFFSET])),
+        amount: Held(numbers::read8(&part[AMOUNT_OFFSET..OWNER_OFFSET])),
         owner: numbers::read2(&part[OWNER_OFFSET..BOOKING_SIZE]),
     }
 }
@@ -171,8 +173,8 @@ fn write_booking(part: &mut [u8], booking: Booking)
     requires { ⌜ length (now part) ≡ bookingSize ⌝ }
     ensures { λ _. ⌜ now (part .exit) ≡ bookingBytes booking ⌝ }
 {
-    numbers::write8(&mut part[ID_OFFSET..AMOUNT_OFFSET], booking.id);
-    numbers::write8(&mut part[AMOUNT_OFFSET..OWNER_OFFSET], booking.amount);
+    numbers::write8(&mut part[ID_OFFSET..AMOUNT_OFFSET], booking.id.0);
+    numbers::write8(&mut part[AMOUNT_OFFSET..OWNER_OFFSET], booking.amount.0);
     numbers::write2(&mut part[OWNER_OFFSET..BOOKING_SIZE], booking.owner);
 }
 

@@ -108,9 +108,9 @@ module _ (xs : List ℕ) (L : Ledger) (room : IsRoom xs L) where
         q ∙ ap₂ (λ i qs. seatFound (At i) qs) e (places-are xs L room) ∙ ap (λ f. seatFound f (map placeRecord ps)) (sym found) ∙ seat-found (b .name) ps
 
     -- what a rule of settlement asks of what is due
-    pub due-allowed : (d : Due) → d ≡ dueAt L j → SeatSound (d .seat) × (d .amount ≤ d .seat .reserved)
+    pub due-allowed : (d : Due) → d ≡ dueAt L j → SeatSound (d .seat) × (d .amount .0 ≤ d .seat .reserved)
     unfolding dueAt
-    due-allowed d e = subst (λ (d : Due). SeatSound (d .seat) × (d .amount ≤ d .seat .reserved)) (sym e) (seat-sound L (room .sound) (b .name), within-reserved)
+    due-allowed d e = subst (λ (d : Due). SeatSound (d .seat) × (d .amount .0 ≤ d .seat .reserved)) (sym e) (seat-sound L (room .sound) (b .name), within-reserved)
 
     due-owner : (d : Due) → d ≡ dueAt L j → d .owner < contentsOf xs .sizes .used
     unfolding dueAt
@@ -150,14 +150,14 @@ module _ (xs : List ℕ) (L : Ledger) (room : IsRoom xs L) where
     refuses is e left r q = stays x L xs room r (replyOf e) (settles ∙ ap (λ o. onBooking L o rule) is ∙ ap (settle L none) left) q
 
     -- the rule at what is due is the rule at the airline's seat
-    pub settled : (j : ℕ) → Live L id j → (d : Due) → d ≡ dueAt L j → (decided : Settlement) → decided ≡ rule (some (d .amount)) (accountOf (d .seat)) (d .seat .limit)
+    pub settled : (j : ℕ) → Live L id j → (d : Due) → d ≡ dueAt L j → (decided : Settlement) → decided ≡ rule (some (d .amount .0)) (accountOf (d .seat)) (d .seat .limit)
         → ((amount : ℕ) (c : Option Account) (l : ℕ) → AddsUp c → SettlementFits (rule (some amount) c l)) → Settled L x id j d decided
     unfolding dueAt onBooking
     settled j found d due decided by-rule well =
         let c : RulesBooking = bookingAt L j in
         let own : RulesSeat = seatIn (c .name) ps in
         let is : decided ≡ rule (some (c .amount)) (own .account) (own .limit) =
-        by-rule ∙ ap (λ (e : Due). rule (some (e .amount)) (accountOf (e .seat)) (e .seat .limit)) due ∙ ap₂ (λ o l. rule (some (c .amount)) o l) (kept-account own) (kept-limit own) in
+        by-rule ∙ ap (λ (e : Due). rule (some (e .amount .0)) (accountOf (e .seat)) (e .seat .limit)) due ∙ ap₂ (λ o l. rule (some (c .amount)) o l) (kept-account own) (kept-limit own) in
         record {
           found = found;
           due = due;
@@ -196,7 +196,7 @@ pub record FoundBooking (xs : List ℕ) (id j : ℕ) : Type 0 where
   -- so what is due of it may be read (`due_at`)
   pub readable : SoundRoom xs × (j < contentsOf xs .sizes .live)
   -- and what was read may be settled (`moves::commit`, `moves::release`)
-  pub allowed : (d : Due) → OfRoom xs (λ L. d ≡ dueAt L j) → SeatSound (d .seat) × (d .amount ≤ d .seat .reserved)
+  pub allowed : (d : Due) → OfRoom xs (λ L. d ≡ dueAt L j) → SeatSound (d .seat) × (d .amount .0 ≤ d .seat .reserved)
 
 pub found-booking : (xs : List ℕ) → SoundRoom xs → (id j : ℕ) (f : Found) → f ≡ bookingOfId id (liveBookings (contentsOf xs)) → f ≡ At j → FoundBooking xs id j
 found-booking xs sound id j f e q =

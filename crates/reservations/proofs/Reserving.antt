@@ -15,6 +15,7 @@ use Rattle.rules.specs.Domain.{IsBytes, IsAmount}
 use Rattle.rules.proofs.Tests.{by-test}
 use Rattle.rules.proofs.Places.{seatIn-all, account-holds}
 use Rattle.numbers.specs.declared.Identifier.{Identifier}
+use Rattle.numbers.specs.declared.Held.{Held}
 use Rattle.numbers.specs.declared.Drawing.{Drawing}
 use Rattle.moves.specs.Moves.{accountOf, isUsedUp, meaning, keptSeat, SeatSound, reservingMove, ReservingSound}
 use Rattle.moves.specs.declared.Seat.{Seat}
@@ -22,7 +23,7 @@ use Rattle.moves.specs.declared.Reserving.{Reserving}
 use Rattle.moves.specs.declared.Reserving.the-variants as reserving
 use Rattle.records.specs.declared.Place.{Place}
 use Rattle.records.specs.declared.Head.{Head}
-use Rattle.records.specs.Records.{headOf}
+use Rattle.records.specs.Records.{booking, headOf}
 use Rattle.heads.specs.Heads.{identifierAt, afterDraw, drawnHead}
 use Rattle.heads.specs.declared.Drawn.{Drawn}
 use Rattle.heads.proofs.Draws.{old-next-id, head-drawn}
@@ -146,7 +147,7 @@ module _ (xs : List ℕ) (L : Ledger) (room : IsRoom xs L) (a : Name) where
           becomes (reserve a z) L xs room (bytes, amount) t (replyOf (Insufficient remaining (pos cost))) (drawn L) (d .move ∙ (unfold perform in refl)) q refl refl ys l
           (k ∙ ap₂ withHead (after (d .fits .1)) (room .holds) ∙ id-drawn L)
 
-      pub books : (s : Seat) (cost : ℕ) (id : Identifier) → Decided L a z (w .drawing) (reserving.Booked s cost id) → (i : ℕ) → At i ≡ placeOfName a searched → {r : Reserved} {ys : List ℕ} → Booked i s cost id (w .head) xs r ys → Performed (λ K. operate K (reserve a z)) L (reservedReply r) ys
+      pub books : (s : Seat) (cost : Held) (id : Identifier) → Decided L a z (w .drawing) (reserving.Booked s cost id) → (i : ℕ) → At i ≡ placeOfName a searched → {r : Reserved} {ys : List ℕ} → Booked i s cost id (w .head) xs r ys → Performed (λ K. operate K (reserve a z)) L (reservedReply r) ys
       unfolding contentsIn
       books s cost id d i e (granted remaining ys left p l k) =
           let n : i ≡ placeNumber a ps = number-is (d .fits .1) i e in
@@ -155,12 +156,12 @@ module _ (xs : List ℕ) (L : Ledger) (room : IsRoom xs L) (a : Name) where
           let live : contentsOf xs .sizes .live ≡ length (L .bookings) = ap (λ c. c .sizes .live) (room .holds) in
           let most : contentsOf xs .sizes .reservations ≡ L .R = ap (λ c. c .sizes .reservations) (room .holds) in
           let fits : length (L .bookings) < L .R = omega arith in
-          let stepped : withHead (w .head) (appendedBooking (record { id = id .0; amount = cost; owner = i }) (withSeat i s (contentsOf xs)))
-          ≡ withHead (headIn (drawn L)) (appendedBooking (record { id = L .nextId; amount = cost; owner = placeNumber a ps }) (withSeat (placeNumber a ps) s (contentsIn L)))
-          = (λ j. withHead (g j) (appendedBooking (record { id = is-next j; amount = cost; owner = n j }) (withSeat (n j) s (room .holds j)))) in
-          becomes (reserve a z) L xs room (bytes, amount) _ (grantedReply (pos (s .remaining)) (L .nextId)) (bookedLedger L a (meaning s) cost) (d .move ∙ performed-booking L a (s .remaining) (meaning s) cost fits) (ap₂ grantedReply p is-next) refl refl ys l
-          (k ∙ stepped ∙ booked-contents L (room .sound) a s (d .sound .0) (d .fits .2) (holds (d .fits .1)) cost fits)
+          let stepped : withHead (w .head) (appendedBooking (record { id = id; amount = cost; owner = i }) (withSeat i s (contentsOf xs)))
+          ≡ withHead (headIn (drawn L)) (appendedBooking (booking (L .nextId) (cost .0) (placeNumber a ps)) (withSeat (placeNumber a ps) s (contentsIn L)))
+          = (λ j. withHead (g j) (appendedBooking (booking (is-next j) (cost .0) (n j)) (withSeat (n j) s (room .holds j)))) in
+          becomes (reserve a z) L xs room (bytes, amount) _ (grantedReply (pos (s .remaining)) (L .nextId)) (bookedLedger L a (meaning s) (cost .0)) (d .move ∙ performed-booking L a (s .remaining) (meaning s) (cost .0) fits) (ap₂ grantedReply p is-next) refl refl ys l
+          (k ∙ stepped ∙ booked-contents L (room .sound) a s (d .sound .0) (d .fits .2) (holds (d .fits .1)) (cost .0) fits)
       books s cost id d i e (full n) =
           let live : contentsOf xs .sizes .live ≡ length (L .bookings) = ap (λ c. c .sizes .live) (room .holds) in
           let most : contentsOf xs .sizes .reservations ≡ L .R = ap (λ c. c .sizes .reservations) (room .holds) in
-          stays (reserve a z) L xs room _ (replyOf ReservationsFull) (d .move ∙ performed-full L a (s .remaining) (meaning s) cost (omega arith)) refl
+          stays (reserve a z) L xs room _ (replyOf ReservationsFull) (d .move ∙ performed-full L a (s .remaining) (meaning s) (cost .0) (omega arith)) refl

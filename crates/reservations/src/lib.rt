@@ -3,6 +3,7 @@ use moves::Committing;
 use moves::Releasing;
 use moves::Reserving;
 use moves::Seat;
+use numbers::Held;
 use numbers::Identifier;
 use numbers::Microcents;
 use numbers::Sign;
@@ -53,14 +54,14 @@ pub enum Released {
 
 // A live reservation that is to be settled: its amount, the number of its airline's place, and the seat there.
 struct Due {
-    amount: u64,
+    amount: Held,
     owner: usize,
     seat: Seat,
 }
 
 // Document 01, Account rules, reserve, its last two answers: a full table refuses, and the id is not used up; else the booking has the id, and the head
 // after the draw is kept.
-fn book(room: &mut [u8], i: usize, seat: Seat, cost: u64, id: Identifier, head: Head) -> Reserved
+fn book(room: &mut [u8], i: usize, seat: Seat, cost: Held, id: Identifier, head: Head) -> Reserved
     requires { ⌜ Sized (now room) × (i < contentsOf (now room) .sizes .used) × (seat .remaining ≤ M) ⌝ }
     ensures { λ r. ⌜ Booked i seat cost id head (now (room .entry)) r (now (room .exit)) ⌝ }
 {
@@ -72,7 +73,7 @@ fn book(room: &mut [u8], i: usize, seat: Seat, cost: u64, id: Identifier, head: 
     tables::append_booking(
         room,
         Booking {
-            id: id.0,
+            id,
             amount: cost,
             owner: i as u64,
         },
@@ -124,9 +125,10 @@ fn due_at(room: &[u8], j: usize) -> Due
     let base = records::HEAD_SIZE + records::PLACE_SIZE * (sizes.names as usize);
     let booking = records::load_booking(room, base, j);
     let owner = booking.owner as usize;
+    let amount = booking.amount;
     let seat = seats::seat_at(room, Found::At(owner));
     Due {
-        amount: booking.amount,
+        amount,
         owner,
         seat,
     }
@@ -145,13 +147,13 @@ pub fn commit(room: &mut [u8], id: Identifier, actual: Microcents) -> Committed
     requires { ⌜ SoundRoom (now room) ⌝ }
     ensures { λ r. ⌜ Performs (λ K. operate K (commit (id .0) (actual .0))) (now (room .entry)) (committedReply r) (now (room .exit)) ⌝ }
 {
-    let number = id.0;
-    let Found::At(j) = lookup::find_booking(room, number) else {
+    let Found::At(j) = lookup::find_booking(room, id) else {
         return missing_commit(actual);
     };
     let due = due_at(room, j);
     let seat = due.seat;
-    let decided = moves::commit(seat, due.amount, actual);
+    let booked = due.amount;
+    let decided = moves::commit(seat, booked, actual);
     match decided {
         Committing::Invalid => Committed::InvalidAmount,
         Committing::Missing => Committed::MissingTenant,
@@ -178,20 +180,20 @@ pub fn release(room: &mut [u8], id: Identifier) -> Released
     requires { ⌜ SoundRoom (now room) ⌝ }
     ensures { λ r. ⌜ Performs (λ K. operate K (release (id .0))) (now (room .entry)) (releasedReply r) (now (room .exit)) ⌝ }
 {
-    let number = id.0;
-    let Found::At(j) = lookup::find_booking(room, number) else {
+    let Found::At(j) = lookup::find_booking(room, id) else {
         return Released::MissingReservation;
     };
     let due = due_at(room, j);
     let seat = due.seat;
-    let decided = moves::release(seat, due.amount);
+    let booked = due.amount;
+    let decided = moves::release(seat, booked);
     match decided {
         Releasing::Missing => Released::MissingTenant,
         Releasing::Returned(returned) => {
             end(room, j, due.owner, returned);
             Released::Done(
                 numbers::amount(returned.remaining),
-                numbers::amount(due.amount),
+                numbers::amount(booked.0),
             )
         }
     }

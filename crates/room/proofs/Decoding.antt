@@ -35,7 +35,7 @@ abbrev pub nowhere : RulesPlace
 nowhere = place [] (seat none 0)
 
 abbrev pub bookingIn : List RulesPlace → Booking → RulesBooking
-bookingIn ps b = record { id = b .id; name = getD ps (b .owner) nowhere .name; amount = b .amount }
+bookingIn ps b = record { id = b .id .0; name = getD ps (b .owner) nowhere .name; amount = b .amount .0 }
 
 unfoldable pub ledgerIn : Contents → Ledger
 ledgerIn c =

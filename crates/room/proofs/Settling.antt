@@ -8,6 +8,7 @@ use Rattle.rules.specs.RoomAndSoundLedger.{Name, Ledger, isVacant, withPlaces, 
 use Rattle.rules.specs.AccountRules.{seated, ended, drawn}
 use Rattle.moves.specs.Moves.{meaning, SeatSound}
 use Rattle.moves.specs.declared.Seat.{Seat}
+use Rattle.records.specs.Records.{booking}
 use Rattle.room.specs.Contents.{withHead, appendedBooking, removedBooking}
 use Rattle.room.specs.Room.{placeNumber, headIn, contentsIn}
 use Rattle.room.specs.Seats.{withSeat}
@@ -22,12 +23,12 @@ module _ (L : Ledger) (sound : Sound L) (a : Name) (s : Seat) (known : SeatSound
 
   -- document 01, Account rules, reserve: the booking has next id as it stood
   pub booked-contents : (cost : ℕ) → length (L .bookings) < L .R
-      → withHead (headIn (drawn L)) (appendedBooking (record { id = L .nextId; amount = cost; owner = placeNumber a (L .places) }) (withSeat (placeNumber a (L .places)) s (contentsIn L)))
+      → withHead (headIn (drawn L)) (appendedBooking (booking (L .nextId) cost (placeNumber a (L .places))) (withSeat (placeNumber a (L .places)) s (contentsIn L)))
       ≡ contentsIn (withBookings (withPlaces (drawn L) (seated a (meaning s) (L .places))) (L .bookings ++ record { id = L .nextId; name = a; amount = cost } ∷ []))
   unfolding reseatedLedger
   booked-contents cost room =
       let number : placeNumber a (L .places) ≡ placeNumber a (seated a (meaning s) (L .places)) = sym (ap (placeNumber a) (seated-put L sound a s taken) ∙ number-replaced a (meaning s) a (L .places) (sound .names-ascend) held) in
-      let added = (λ i. appendedBooking (record { id = L .nextId; amount = cost; owner = number i }) (seat-kept L sound a s known taken held i)) ∙ booking-added reseatedLedger (record { id = L .nextId; name = a; amount = cost }) room in
+      let added = (λ i. appendedBooking (booking (L .nextId) cost (number i)) (seat-kept L sound a s known taken held i)) ∙ booking-added reseatedLedger (record { id = L .nextId; name = a; amount = cost }) room in
       ap (withHead (headIn (drawn L))) added ∙ id-drawn (withBookings reseatedLedger (L .bookings ++ record { id = L .nextId; name = a; amount = cost } ∷ []))
 
   -- "the reservation ends"

@@ -66,8 +66,8 @@ module _ (xs : List ℕ) (L : Ledger) (room : IsRoom xs L) where
   names-ascend : Pairwise NameBefore (usedPlaces (contentsOf xs))
   names-ascend = rw places-are (pairwise-images placeRecord NameBefore (L .places) (pairwise-map Before _ record-before (L .places) (room .sound .names-ascend)))
 
-  ids-ascend : Pairwise (λ b c. b .id < c .id) (liveBookings (contentsOf xs))
-  ids-ascend = rw bookings-are (pairwise-images (bookingRecord (L .places)) (λ b c. b .id < c .id) (L .bookings) (room .sound .ids-ascend))
+  ids-ascend : Pairwise (λ b c. b .id .0 < c .id .0) (liveBookings (contentsOf xs))
+  ids-ascend = rw bookings-are (pairwise-images (bookingRecord (L .places)) (λ b c. b .id .0 < c .id .0) (L .bookings) (room .sound .ids-ascend))
 
 -- every sound room is all that a look-up asks for
 pub searchable : (xs : List ℕ) → SoundRoom xs → Searchable xs

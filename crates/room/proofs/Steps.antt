@@ -18,6 +18,7 @@ use Rattle.rules.proofs.Places.{more, length-put, account-holds}
 use Rattle.rules.proofs.Bookings.{Below}
 use Rattle.records.proofs.Rows.{map-set}
 use Rattle.records.specs.declared.Booking.{Booking}
+use Rattle.records.specs.Records.{booking}
 use Rattle.room.specs.Contents.{contents, emptyPlace, emptyBooking, later, placeForName, bookingOfId, withHead, withPlace, opened, closed, raised, lowered, renumbered, insertedPlace, freedPlace, appendedBooking, removedBooking}
 use Rattle.room.specs.Room.{placeRecord, placeNumber, bookingRecord, filled, headIn, contentsIn}
 use Rattle.room.specs.declared.Found.{Found}
@@ -88,8 +89,8 @@ module _ (L : Ledger) (sound : Sound L) where
   owners-held : All (λ b. holdsPlace (b .name) ps ≡ true) bs
   owners-held = all-map (λ b. hasAccount (seatIn (b .name) ps .account) ≡ true) (λ b. holdsPlace (b .name) ps ≡ true) (λ b h. account-holds (b .name) ps h) bs (sound .accounts-exist)
 
-  owned : (b : RulesBooking) {m n : ℕ} → m ≡ n → _≡_ {A = Booking} (record { id = b .id; amount = b .amount; owner = m }) (record { id = b .id; amount = b .amount; owner = n })
-  owned b e = ap (λ n. record { id = b .id; amount = b .amount; owner = n }) e
+  owned : (b : RulesBooking) {m n : ℕ} → m ≡ n → booking (b .id) (b .amount) m ≡ booking (b .id) (b .amount) n
+  owned b e = ap (booking (b .id) (b .amount)) e
 
   -- bookings whose owners get their new numbers
   renumber : (g : Booking → Booking) (qs : List RulesPlace) → All (λ b. g (bookingRecord ps b) ≡ bookingRecord qs b) bs

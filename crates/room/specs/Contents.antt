@@ -9,7 +9,7 @@ use Rattle.rules.specs.RoomAndSoundLedger.{Name, order, same, mostNames, mostRe
 use Rattle.rules.specs.Lists.{All, Pairwise}
 use Rattle.names.specs.Names.{spelled, stored, IsStored}
 use Rattle.records.specs.Layout.{placeStart, bookingSize}
-use Rattle.records.specs.Records.{sizesOf, headOf, places, bookings}
+use Rattle.records.specs.Records.{booking, sizesOf, headOf, places, bookings}
 use Rattle.records.specs.declared.Place.{Place}
 use Rattle.records.specs.declared.Booking.{Booking}
 use Rattle.records.specs.declared.Head.{Head}
@@ -61,7 +61,7 @@ pub record Searchable (xs : List ℕ) : Type 0 where
   pub sized : Sized xs
   pub names-stored : All (λ p. IsStored (p .name)) (usedPlaces (contentsOf xs))
   pub names-ascend : Pairwise NameBefore (usedPlaces (contentsOf xs))
-  pub ids-ascend : Pairwise (λ b c. b .id < c .id) (liveBookings (contentsOf xs))
+  pub ids-ascend : Pairwise (λ b c. b .id .0 < c .id .0) (liveBookings (contentsOf xs))
 
 abbrev pub later : Found → Found
 later (At i) = At (suc i)
@@ -84,7 +84,7 @@ placeForName a (p ∷ ps) = goesBehind (order (spelled (p .name)) a) (placeForNa
 
 unfoldable pub bookingOfId : ℕ → List Booking → Found
 bookingOfId i [] = Absent
-bookingOfId i (b ∷ bs) = cond (eqb i (b .id)) (At 0) (later (bookingOfId i bs))
+bookingOfId i (b ∷ bs) = cond (eqb i (b .id .0)) (At 0) (later (bookingOfId i bs))
 
 -- ── what the steps make of the tables ──────────────────────────────────────────────────────────
 
@@ -92,7 +92,7 @@ abbrev pub emptyPlace : Place
 emptyPlace = record { initial = 0; remaining = 0; reserved = 0; committed = 0; limit = 0; account = 0; name = stored [] }
 
 abbrev pub emptyBooking : Booking
-emptyBooking = record { id = 0; amount = 0; owner = 0 }
+emptyBooking = booking 0 0 0
 
 abbrev pub withCounts : (used live : ℕ) → Sizes → Sizes
 withCounts used live s = record { names = s .names; reservations = s .reservations; used = used; live = live }

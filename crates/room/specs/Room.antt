@@ -13,6 +13,7 @@ use Rattle.records.specs.declared.Place.{Place}
 use Rattle.records.specs.declared.Booking.{Booking}
 use Rattle.records.specs.declared.Head.{Head}
 use Rattle.records.specs.declared.Sizes.{Sizes}
+use Rattle.records.specs.Records.{booking}
 use Rattle.room.specs.Contents.{Contents, contents, roomSize, contentsOf, emptyPlace, emptyBooking}
 
 -- a seat and a name as the record of a place
@@ -29,7 +30,7 @@ placeNumber a (p ∷ ps) = cond (isAt a p) 0 (suc (placeNumber a ps))
 
 -- a booking holds the number of its airline's place
 abbrev pub bookingRecord : List RulesPlace → RulesBooking → Booking
-bookingRecord ps b = record { id = b .id; amount = b .amount; owner = placeNumber (b .name) ps }
+bookingRecord ps b = booking (b .id) (b .amount) (placeNumber (b .name) ps)
 
 -- n entries, those after the given ones empty: "room not in use is zero"
 unfoldable pub filled : {A : Type 0} → (n : ℕ) → A → List A → List A

@@ -14,7 +14,7 @@ use Rattle.records.specs.declared.Booking.{Booking}
 use Rattle.soundness.specs.Facts.{shareOf}
 use Rattle.soundness.specs.Steps.{ZeroBelow, Follows, Booked}
 
-share-own : (i : ℕ) (b : Booking) → i ≡ b .owner → shareOf i b ≡ b .amount
+share-own : (i : ℕ) (b : Booking) → i ≡ b .owner → shareOf i b ≡ b .amount .0
 share-own i b e = rw (eq-eqb i (b .owner) e)
 
 share-other : (i : ℕ) (b : Booking) → i ≢ b .owner → shareOf i b ≡ 0
@@ -22,11 +22,11 @@ share-other i b n = rw (ne-eqb i (b .owner) n)
 
 -- what is reserved after a booking took its amount
 abbrev pub taken : Booking → List ℕ → List ℕ
-taken b reserved = set reserved (b .owner) (getD reserved (b .owner) 0 - b .amount)
+taken b reserved = set reserved (b .owner) (getD reserved (b .owner) 0 - b .amount .0)
 
-taken-share : (b : Booking) (reserved : List ℕ) (i : ℕ) → b .owner < length reserved → b .amount ≤ getD reserved (b .owner) 0 → shareOf i b + getD (taken b reserved) i 0 ≡ getD reserved i 0
+taken-share : (b : Booking) (reserved : List ℕ) (i : ℕ) → b .owner < length reserved → b .amount .0 ≤ getD reserved (b .owner) 0 → shareOf i b + getD (taken b reserved) i 0 ≡ getD reserved i 0
 taken-share b reserved i within enough =
-    let rest = getD reserved (b .owner) 0 - b .amount in
+    let rest = getD reserved (b .owner) 0 - b .amount .0 in
     ⊎-elim
     (λ e.
     let here : getD (taken b reserved) i 0 ≡ rest = ap (λ j. getD (taken b reserved) j 0) e ∙ getD-set-same reserved (b .owner) rest 0 within in
@@ -39,15 +39,15 @@ module _ (last next used : ℕ) (reserved : List ℕ) (b : Booking) (bs : List B
   pub first-follows : Booked last next used reserved (b ∷ bs) → Follows last next used b
   first-follows h = (h .after .0, h .sound .each .0)
 
-  pub first-within : Booked last next used reserved (b ∷ bs) → b .amount ≤ getD reserved (b .owner) 0
+  pub first-within : Booked last next used reserved (b ∷ bs) → b .amount .0 ≤ getD reserved (b .owner) 0
   unfolding sum
   first-within h = omega (arith, h .sums (b .owner) (h .sound .each .0 .owner), share-own (b .owner) b refl)
 
-  module _ (follows : Follows last next used b) (few : used ≤ length reserved) (enough : b .amount ≤ getD reserved (b .owner) 0) where
+  module _ (follows : Follows last next used b) (few : used ≤ length reserved) (enough : b .amount .0 ≤ getD reserved (b .owner) 0) where
     shared : (i : ℕ) → shareOf i b + getD (taken b reserved) i 0 ≡ getD reserved i 0
     shared i = let owner = follows .1 .owner in taken-share b reserved i (omega arith) enough
 
-    pub booked-rest : Booked last next used reserved (b ∷ bs) → Booked (b .id) next used (taken b reserved) bs
+    pub booked-rest : Booked last next used reserved (b ∷ bs) → Booked (b .id .0) next used (taken b reserved) bs
     unfolding sum
     booked-rest h = record {
       sound = record { each = h .sound .each .1; ascend = h .sound .ascend .1 };
@@ -55,11 +55,11 @@ module _ (last next used : ℕ) (reserved : List ℕ) (b : Booking) (bs : List B
       sums = λ i l. omega (arith, h .sums i l, shared i);
     }
 
-    pub booked-first : Booked (b .id) next used (taken b reserved) bs → Booked last next used reserved (b ∷ bs)
+    pub booked-first : Booked (b .id .0) next used (taken b reserved) bs → Booked last next used reserved (b ∷ bs)
     unfolding sum
     booked-first h = record {
       sound = record { each = (follows .1, h .sound .each); ascend = (h .after, h .sound .ascend) };
-      after = (follows .0, all-map (λ d. b .id < d .id) (λ d. last < d .id) (λ d l. omega (arith, follows .0)) bs (h .after));
+      after = (follows .0, all-map (λ d. b .id .0 < d .id .0) (λ d. last < d .id .0) (λ d l. omega (arith, follows .0)) bs (h .after));
       sums = λ i l. omega (arith, h .sums i l, shared i);
     }
 

@@ -111,7 +111,7 @@ module _ (c : Contents) (shaped : Shaped c) (facts : TablesSound c) where
   owner-has-account : (b : Booking) → BookingHolds c b → shareOf (b .owner) b ≤ sum (shareOf (b .owner)) live → hasAccount (seatIn (nameAt held (b .owner)) held .account) ≡ true
   owner-has-account b s part =
       let l : b .owner < length held = omega (arith, held-length, s .owner) in
-      let a : shareOf (b .owner) b ≡ b .amount = rw (eq-eqb (b .owner) (b .owner) refl) in
+      let a : shareOf (b .owner) b ≡ b .amount .0 = rw (eq-eqb (b .owner) (b .owner) refl) in
       let found = at-index (λ p. seatIn (p .name) held ≡ p .seat) held (b .owner) nowhere (all-found held ascend) l in
       ap (λ t. hasAccount (t .account)) found
       ∙ has-account (getD held (b .owner) nowhere .seat .account) (omega (arith, reserved-of-number (b .owner) (s .owner), a, part, s .amount))

@@ -46,4 +46,4 @@ module _ (ps : List Place) (ascend : Pairwise Before ps) (i : ℕ) (within : i <
   pub reserved-at : (bs : List Booking) → All (λ b. b .owner < length ps) bs → reservedFor (nameAt ps i) (map (bookingIn ps) bs) ≡ sum (shareOf i) bs
   unfolding reservedFor
   reserved-at bs h = sum-images (bookingIn ps) (share (nameAt ps i)) (shareOf i) bs
-      (all-map (λ b. b .owner < length ps) (λ b. share (nameAt ps i) (bookingIn ps b) ≡ shareOf i b) (λ b l. ap (λ t. cond t (b .amount) 0) (same-number (b .owner) l)) bs h)
+      (all-map (λ b. b .owner < length ps) (λ b. share (nameAt ps i) (bookingIn ps b) ≡ shareOf i b) (λ b l. ap (λ t. cond t (b .amount .0) 0) (same-number (b .owner) l)) bs h)

@@ -82,7 +82,7 @@ module _ (s : Sizes) (h : Head) (xs : List ℕ) (bytes : All IsByte xs) (sized :
         let sound : BookingsSound (h .«next_id») (s .used) (bookings base (s .live) xs) = subst (BookingsSound (h .«next_id») (s .used)) live-bookings (tables .bookings) in
         record {
           sound = sound;
-          after = all-map (BookingSound (h .«next_id») (s .used)) (λ b. 0 < b .id) (λ b p. p .id .0) (bookings base (s .live) xs) (sound .each);
+          after = all-map (BookingSound (h .«next_id») (s .used)) (λ b. 0 < b .id .0) (λ b p. p .id .0) (bookings base (s .live) xs) (sound .each);
           sums = λ i l. noted-at (s .used) xs reserved noted i l ∙ ap (λ ps. getD ps i emptyPlace .reserved) (sym used-places) ∙ tables .reserved i l ∙ ap (sum (shareOf i)) live-bookings;
         }
 

@@ -76,7 +76,7 @@ module _ (L : Ledger) (sound : Sound L) where
   bookings-facts = record {
     each = all-both (λ b. b .owner < length (L .places)) (λ b. b .owner < length (L .places) → BookingSound (L .nextId) (length (L .places)) b) (BookingSound (L .nextId) (length (L .places))) (λ b l f. f l) booked owners
         (all-images (bookingRecord (L .places)) _ (L .bookings) (all-both (IdBelow (L .nextId)) (λ b. 0 < b .amount) _ (λ b h k l. record { id = h; amount = k; owner = l }) (L .bookings) (sound .ids-in-range) (sound .amounts-positive)));
-    ascend = pairwise-images (bookingRecord (L .places)) (λ b d. b .id < d .id) (L .bookings) (sound .ids-ascend);
+    ascend = pairwise-images (bookingRecord (L .places)) (λ b d. b .id .0 < d .id .0) (L .bookings) (sound .ids-ascend);
   }
 
   bookings-back : map (bookingIn (L .places)) booked ≡ L .bookings

@@ -50,17 +50,17 @@ pub record PlacesSound (base : ℕ) (ps : List Place) : Type 0 where
   pub baseline : base ≤ sum (λ p. p .committed) ps
 
 pub record BookingSound (next used : ℕ) (b : Booking) : Type 0 where
-  pub id : (1 ≤ b .id) × (b .id < next)
-  pub amount : 0 < b .amount
+  pub id : (1 ≤ b .id .0) × (b .id .0 < next)
+  pub amount : 0 < b .amount .0
   pub owner : b .owner < used
 
 -- what a booking reserves for the place of a number
 abbrev pub shareOf : ℕ → Booking → ℕ
-shareOf i b = cond (eqb i (b .owner)) (b .amount) 0
+shareOf i b = cond (eqb i (b .owner)) (b .amount .0) 0
 
 pub record BookingsSound (next used : ℕ) (bs : List Booking) : Type 0 where
   pub each : All (BookingSound next used) bs
-  pub ascend : Pairwise (λ b c. b .id < c .id) bs
+  pub ascend : Pairwise (λ b c. b .id .0 < c .id .0) bs
 
 -- document 01, Room and the sound ledger: what a place has reserved is what its bookings add up to
 abbrev pub ReservedIsSum : (used : ℕ) → List Place → List Booking → Type 0

@@ -35,10 +35,10 @@ Noted used room reserved = take used reserved ≡ map (λ p. p .reserved) (place
 
 -- a booking that may follow one of this id
 abbrev pub Follows : (last next used : ℕ) → Booking → Type 0
-Follows last next used b = (last < b .id) × BookingSound next used b
+Follows last next used b = (last < b .id .0) × BookingSound next used b
 
 -- bookings that may follow one of this id, and that add up to what each place has reserved
 pub record Booked (last next used : ℕ) (reserved : List ℕ) (bs : List Booking) : Type 0 where
   pub sound : BookingsSound next used bs
-  pub after : All (λ b. last < b .id) bs
+  pub after : All (λ b. last < b .id .0) bs
   pub sums : (i : ℕ) → i < used → getD reserved i 0 ≡ sum (shareOf i) bs

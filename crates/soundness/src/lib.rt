@@ -251,13 +251,13 @@ fn is_zero(part: &[u8]) -> bool
 fn booking_sound(booking: Booking, last: u64, next_id: u64, used: u64) -> bool
     ensures { λ r. ⌜ Decides (Follows last «next_id» used booking) r ⌝ }
 {
-    if booking.id <= last {
+    if booking.id.0 <= last {
         return false;
     }
-    if next_id <= booking.id {
+    if next_id <= booking.id.0 {
         return false;
     }
-    if booking.amount == 0 {
+    if booking.amount.0 == 0 {
         return false;
     }
     booking.owner < used
@@ -286,11 +286,11 @@ fn bookings_sound(
             return false;
         }
         let owner = booking.owner as usize;
-        if reserved[owner] < booking.amount {
+        if reserved[owner] < booking.amount.0 {
             return false;
         }
-        reserved[owner] = reserved[owner] - booking.amount;
-        last = booking.id;
+        reserved[owner] = reserved[owner] - booking.amount.0;
+        last = booking.id.0;
         j += 1;
     }
     true

@@ -1,5 +1,7 @@
 // The steps that change the tables of a room, each said of the room's contents.
 use names::Name;
+use numbers::Held;
+use numbers::Identifier;
 use records::Booking;
 use records::Head;
 use records::Place;
@@ -81,11 +83,9 @@ fn move_bookings_down(room: &mut [u8], base: usize, i: usize, live: usize)
 fn with_owner(booking: Booking, owner: u64) -> Booking
     ensures { λ r. ⌜ r ≡ withOwner owner booking ⌝ }
 {
-    Booking {
-        id: booking.id,
-        amount: booking.amount,
-        owner,
-    }
+    let id = booking.id;
+    let amount = booking.amount;
+    Booking { id, amount, owner }
 }
 
 // Owners from place i on get the next number. Only bookings that change are stored.
@@ -186,8 +186,8 @@ pub fn remove_booking(room: &mut [u8], i: usize)
     let live = sizes.live as usize;
     move_bookings_down(room, base, i, live);
     let empty = Booking {
-        id: 0,
-        amount: 0,
+        id: Identifier(0),
+        amount: Held(0),
         owner: 0,
     };
     records::store_booking(room, base, live - 1, empty);

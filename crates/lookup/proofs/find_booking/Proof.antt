@@ -17,7 +17,7 @@ use Rattle.lookup.proofs.find_booking.Statement.{statement}
 use Rattle.lookup.proofs.find_booking.Tie as tie
 
 abbrev Inv-loop : tie.InvT-loop
-Inv-loop room id base low₀ high₀ low high = Bracket (λ b. b .id < id) (λ b. id < b .id) emptyBooking (liveBookings (contentsOf room)) low high
+Inv-loop room id base low₀ high₀ low high = Bracket (λ b. b .id .0 < id .0) (λ b. id .0 < b .id .0) emptyBooking (liveBookings (contentsOf room)) low high
 
 abbrev μ-loop : tie.MeasureT-loop
 μ-loop room id base low₀ high₀ low high = high - low
@@ -39,12 +39,12 @@ middle-live c =
 loaded : (c : tie.After-load-booking Inv-loop μ-loop) →
     let l = c .before .before in
     let s = l .before .before .before in
-    c .load-booking .result .id ≡ getD (liveBookings (contentsOf (s .args .room .now))) (middle l) emptyBooking .id
+    c .load-booking .result .id .0 ≡ getD (liveBookings (contentsOf (s .args .room .now))) (middle l) emptyBooking .id .0
 loaded c =
     let l = c .before .before in
     let s = l .before .before .before in
     let xs = s .args .room .now in
-    ap (λ b. b .id)
+    ap (λ b. b .id .0)
     (c .load-booking .ensures
     ∙ ap (λ n. bookingOf (row bookingSize (baseOf n + bookingSize * middle l) xs)) (names-read (l .before))
     ∙ loaded-booking xs (s .pre .sized) (middle l) emptyBooking (middle-live (c .before)))
@@ -61,7 +61,7 @@ add-base c = omega (arith, names-read c, c .before .before .pre .sized .names)
 loop-holds : tie.Need-loop-holds Inv-loop μ-loop
 loop-holds c =
     let a = c .before .before .args in
-    whole (λ b. b .id < a .id) (λ b. a .id < b .id) emptyBooking (liveBookings (contentsOf (a .room .now))) (c .load-sizes .result .live) (live-read c)
+    whole (λ b. b .id .0 < a .id .0) (λ b. a .id .0 < b .id .0) emptyBooking (liveBookings (contentsOf (a .room .now))) (c .load-sizes .result .live) (live-read c)
 
 add-middle : tie.Need-add-middle Inv-loop μ-loop
 add-middle c = omega (arith, middle-live c, c .before .before .before .before .pre .sized)
@@ -71,39 +71,39 @@ load-booking-requires c κs = omega (arith, names-read (c .before .before), midd
 
 returns : tie.Need-returns Inv-loop μ-loop
 returns c =
-    let l = c .before .before .before .before in
+    let l = c .before .before .before .before .before in
     let s = l .before .before .before in
     let bs = liveBookings (contentsOf (s .args .room .now)) in
-    booking-only (s .args .id) emptyBooking bs (At (middle l))
-    (hit (ids-divide (s .args .id)) emptyBooking bs (s .pre .ids-ascend) (l .loop .inv) (middle l) (omega arith) (omega arith)
-    (eq-eqb (s .args .id) (getD bs (middle l) emptyBooking .id) (sym (c .if1 .taken) ∙ loaded (c .before .before))))
+    booking-only (s .args .id .0) emptyBooking bs (At (middle l))
+    (hit (ids-divide (s .args .id .0)) emptyBooking bs (s .pre .ids-ascend) (l .loop .inv) (middle l) (omega arith) (omega arith)
+    (eq-eqb (s .args .id .0) (getD bs (middle l) emptyBooking .id .0) (sym (c .if1 .taken) ∙ loaded (c .before .before .before))))
 
 add-low : tie.Need-add-low Inv-loop μ-loop
 add-low c =
-    let l = c .before .before .before .before .before in
+    let l = c .before .before .before .before .before .before .before in
     omega (arith, middle-live l, l .before .before .before .before .pre .sized)
 
 loop-again : tie.Need-loop-again Inv-loop μ-loop
 loop-again c =
-    let l = c .before .before .before .before .before .before in
+    let l = c .before .before .before .before .before .before .before .before in
     let s = l .before .before .before in
     let bs = liveBookings (contentsOf (s .args .room .now)) in
-    raise-low (ids-divide (s .args .id)) emptyBooking bs (s .pre .ids-ascend) (l .loop .inv) (middle l) (omega arith) (omega arith)
-    (omega (arith, c .if2 .taken, loaded (c .before .before .before .before)))
+    raise-low (ids-divide (s .args .id .0)) emptyBooking bs (s .pre .ids-ascend) (l .loop .inv) (middle l) (omega arith) (omega arith)
+    (omega (arith, c .if2 .taken, loaded (c .before .before .before .before .before .before)))
 
 loop-again-2 : tie.Need-loop-again-2 Inv-loop μ-loop
 loop-again-2 c =
-    let l = c .before .before .before .before .before .before in
+    let l = c .before .before .before .before .before .before .before .before in
     let s = l .before .before .before in
     let bs = liveBookings (contentsOf (s .args .room .now)) in
-    lower-high (ids-divide (s .args .id)) emptyBooking bs (s .pre .ids-ascend) (l .loop .inv) (middle l) (omega arith) (omega arith)
-    (omega (arith, c .if2 .left, c .before .before .if1 .left, loaded (c .before .before .before .before)))
+    lower-high (ids-divide (s .args .id .0)) emptyBooking bs (s .pre .ids-ascend) (l .loop .inv) (middle l) (omega arith) (omega arith)
+    (omega (arith, c .if2 .left, c .before .before .before .if1 .left, loaded (c .before .before .before .before .before .before)))
 
 returns-2 : tie.Need-returns-2 Inv-loop μ-loop
 returns-2 c =
     let s = c .before .before .before .before in
     let bs = liveBookings (contentsOf (s .args .room .now)) in
-    booking-only (s .args .id) emptyBooking bs Absent (miss (ids-divide (s .args .id)) emptyBooking bs (s .pre .ids-ascend) (c .before .loop .inv) (c .loop-test .left))
+    booking-only (s .args .id .0) emptyBooking bs Absent (miss (ids-divide (s .args .id .0)) emptyBooking bs (s .pre .ids-ascend) (c .before .loop .inv) (c .loop-test .left))
 
 pub find-booking-spec : {M : Type 1} → statement M
 find-booking-spec =

@@ -39,7 +39,7 @@ abbrev remaining : tie.After-known-told2 → ℕ
 remaining c = entry c .args .seat .remaining
 
 abbrev booked : tie.After-known-told2 → ℕ
-booked c = entry c .args .booked
+booked c = entry c .args .booked .0
 
 abbrev delta : tie.After-known-told2 → ℤ
 delta c = pos (spent c) -ℤ pos (booked c)
@@ -73,11 +73,11 @@ returns-4 c =
 
 returns-5 : tie.Need-returns-5
 returns-5 c =
-    let summed = c .before .before .before .before .before .before in
+    let summed = c .before .before .before .before .before .before .before in
     let present = summed .before .before .before .before in
     let h = adds-up present in
     let sum = sum-is summed in
-    let left = left-is (remaining summed) (delta summed) _ (told (remainder-is (c .before .before .before .before)) (c .before .before .remaining .given .1)) in (
+    let left = left-is (remaining summed) (delta summed) _ (told (remainder-is (c .before .before .before .before .before)) (c .before .before .before .remaining .given .1)) in (
       commit-ends _ _ _ _ (actual-is (present .before .before)) (present .if1 .left) (sum .1) _ _ (left .0) (left .1) (sum .0),
       account-sound _ _ _ _ _ (omega (arith, entry summed .pre .1, commit-leaves (remaining summed) (booked summed) (spent summed) (left .0))) (h .1) (entry summed .pre .0 .limit),
     )

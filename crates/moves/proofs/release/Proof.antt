@@ -14,8 +14,8 @@ adds-up c = amounts-add-up _ (c .before .before .pre .0) (c .if1 .left)
 
 returns-2 : tie.Need-returns-2
 returns-2 c =
-    let h = adds-up (c .before .before) in
-    (release-returns _ _ (c .before .before .if1 .left), account-sound _ _ _ _ _ (omega arith) (h .1) (search needs))
+    let h = adds-up (c .before .before .before .before) in
+    (release-returns _ _ (c .before .before .before .before .if1 .left), account-sound _ _ _ _ _ (omega arith) (h .1) (search needs))
 
 pub release-spec : {M : Type 1} → statement M
-release-spec = tie.close (tie.spec returns (λ c. let h = adds-up (c .before) in unfold M in omega arith) (λ c. search needs) returns-2)
+release-spec = tie.close (tie.spec returns (λ c. let h = adds-up (c .before .before) in unfold M in omega arith) (λ c. search needs) returns-2)

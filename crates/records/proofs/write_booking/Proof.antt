@@ -19,8 +19,8 @@ returns c =
     let s = at-id .before .before .before in
     let part = s .args .part .now in
     let k = s .args .booking in
-    let id : _ ≡ littleBytes 8 (k .id) = at-id .write8 .ensures in
-    let amount : _ ≡ littleBytes 8 (k .amount) = at-amount .write82 .ensures in
+    let id : _ ≡ littleBytes 8 (k .id .0) = at-id .write8 .ensures in
+    let amount : _ ≡ littleBytes 8 (k .amount .0) = at-amount .write82 .ensures in
     let owner : _ ≡ littleBytes 2 (k .owner) = at-owner .write2 .ensures in
     (λ j. put ownerOffset 2 (put amountOffset 8 (put 0 8 part (id j)) (amount j)) (owner j))
     ∙ fields-written 0 bookingWidths (bookingNumbers k) part refl (omega (arith, s .pre))

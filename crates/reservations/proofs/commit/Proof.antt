@@ -63,13 +63,13 @@ due-at-requires : tie.Need-due-at-requires
 due-at-requires c κs = found (c .before .before) .readable
 
 commit-requires : tie.Need-commit-requires
-commit-requires c κs = let due = c .before .due-at in found (c .before .before .before .before) .allowed (due .result) (due .ensures)
+commit-requires c κs = let due = c .before .before .due-at in found (c .before .before .before .before .before) .allowed (due .result) (due .ensures)
 
 abbrev place : tie.After-commit → tie.After-j
-place c = c .before .before .before .before .before
+place c = c .before .before .before .before .before .before
 
 abbrev start : tie.After-commit → tie.Start
-start c = c .before .before .before .before .before .before .before .before .before .before
+start c = c .before .before .before .before .before .before .before .before .before .before .before
 
 settles : (s : tie.Start) (L : Ledger) → operate L (operation s) ≡ onBooking L (booked (id s) (L .bookings)) (commitRule (actual s))
 unfolding operate
@@ -77,12 +77,12 @@ settles s L = refl
 
 -- whatever ledger the room holds, it is decided to be this
 abbrev Decides : tie.After-commit → Committing → Type 0
-Decides c r = let s = start c in (L : Ledger) → IsRoom (room s) L → Settled L (operation s) (id s) (at (place c)) (c .before .before .due-at .result) (committingSettlement (actual s) r)
+Decides c r = let s = start c in (L : Ledger) → IsRoom (room s) L → Settled L (operation s) (id s) (at (place c)) (c .before .before .before .due-at .result) (committingSettlement (actual s) r)
 
 told : (c : tie.After-commit) (r : Committing) → c .commit .result ≡ r → Decides c r
 told c r e L k =
     let s = start c in
-    let due = c .before .before .due-at in
+    let due = c .before .before .before .due-at in
     settled (room s) L k (operation s) (id s) (commitRule (actual s)) (settles s L) (at (place c)) (found (place c) .is-live L k) (due .result) (due .ensures L k) _
     (sym (ap (committingSettlement (actual s)) e) ∙ c .commit .ensures .0) (commit-fits (actual s))
 
@@ -136,7 +136,7 @@ end-requires : tie.Need-end-requires
 end-requires c κs =
     let d = c .before .before .before .before in
     let s = start d in
-    let allowed = end-allowed (room s) (ledger s) (is-room s) (operation s) (id s) (at (place d)) (d .before .before .due-at .result) _ (ending (c .before) (ledger s) (is-room s)) in
+    let allowed = end-allowed (room s) (ledger s) (is-room s) (operation s) (id s) (at (place d)) (d .before .before .before .due-at .result) _ (ending (c .before) (ledger s) (is-room s)) in
     (allowed .0, omega (arith, allowed .1), omega (arith, allowed .2))
 
 returns-6 : tie.Need-returns-6

@@ -33,20 +33,20 @@ booking c L r =
 
 seat-at-requires : tie.Need-seat-at-requires
 seat-at-requires c κs =
-    let s = c .before .before .before in
+    let s = c .before .before .before .before in
     let xs = s .args .room .now in
     let L = s .pre .0 .ledger in
     let r = s .pre .0 .is-room in
-    let owner : c .load-booking .result .owner ≡ placeNumber (bookingAt L (s .args .j) .name) (L .places) = ap (λ (b : Booking). b .owner) (booking c L r) in
+    let owner : c .before .load-booking .result .owner ≡ placeNumber (bookingAt L (s .args .j) .name) (L .places) = ap (λ (b : Booking). b .owner) (booking (c .before) L r) in
     let used = rw (sym (places-are xs L r)) at (length-map (L .places) placeRecord) in
     (sized xs L r, omega (arith, owner-below xs L r (s .args .j) (below s L r), used))
 
 returns : tie.Need-returns
 unfolding dueAt
 returns c L r =
-    let s = c .before .before .before .before in
-    let b = booking (c .before) L r in
-    let seat = seat-there (s .args .room .now) L r (s .args .j) (below s L r) (c .before .load-booking .result .owner) (ap (λ (b : Booking). b .owner) b) (c .seat-at .result) (c .seat-at .ensures) in
+    let s = c .before .before .before .before .before in
+    let b = booking (c .before .before) L r in
+    let seat = seat-there (s .args .room .now) L r (s .args .j) (below s L r) (c .before .before .load-booking .result .owner) (ap (λ (b : Booking). b .owner) b) (c .seat-at .result) (c .seat-at .ensures) in
     λ i. record { amount = b i .amount; owner = b i .owner; seat = seat i }
 
 pub due-at-spec : {M : Type 1} → statement M

@@ -54,13 +54,13 @@ due-at-requires : tie.Need-due-at-requires
 due-at-requires c κs = found (c .before .before) .readable
 
 release-requires : tie.Need-release-requires
-release-requires c κs = let due = c .before .due-at in found (c .before .before .before .before) .allowed (due .result) (due .ensures)
+release-requires c κs = let due = c .before .before .due-at in found (c .before .before .before .before .before) .allowed (due .result) (due .ensures)
 
 abbrev place : tie.After-release → tie.After-j
-place c = c .before .before .before .before .before
+place c = c .before .before .before .before .before .before
 
 abbrev start : tie.After-release → tie.Start
-start c = c .before .before .before .before .before .before .before .before .before .before
+start c = c .before .before .before .before .before .before .before .before .before .before .before
 
 settles : (s : tie.Start) (L : Ledger) → operate L (operation s) ≡ onBooking L (booked (id s) (L .bookings)) releaseRule
 unfolding operate
@@ -70,15 +70,15 @@ settles s L = refl
 abbrev Decides : tie.After-release → Releasing → Type 0
 Decides c r =
     let s = start c in
-    let d = c .before .before .due-at .result in
-    (L : Ledger) → IsRoom (room s) L → Settled L (operation s) (id s) (at (place c)) d (releasingSettlement (d .amount) r)
+    let d = c .before .before .before .due-at .result in
+    (L : Ledger) → IsRoom (room s) L → Settled L (operation s) (id s) (at (place c)) d (releasingSettlement (d .amount .0) r)
 
 told : (c : tie.After-release) (r : Releasing) → c .release .result ≡ r → Decides c r
 told c r e L k =
     let s = start c in
-    let due = c .before .before .due-at in
+    let due = c .before .before .before .due-at in
     settled (room s) L k (operation s) (id s) releaseRule (settles s L) (at (place c)) (found (place c) .is-live L k) (due .result) (due .ensures L k) _
-    (sym (ap (releasingSettlement (due .result .amount)) e) ∙ c .release .ensures .0) (λ amount o l adds. release-fits amount o l)
+    (sym (ap (releasingSettlement (due .result .amount .0)) e) ∙ c .release .ensures .0) (λ amount o l adds. release-fits amount o l)
 
 returns : tie.Need-returns
 unfolding releaseRule
@@ -105,14 +105,14 @@ end-requires : tie.Need-end-requires
 end-requires c κs =
     let d = c .before .before .before .before in
     let s = start d in
-    let allowed = end-allowed (room s) (ledger s) (is-room s) (operation s) (id s) (at (place d)) (d .before .before .due-at .result) _ (ending (c .before) (ledger s) (is-room s)) in
+    let allowed = end-allowed (room s) (ledger s) (is-room s) (operation s) (id s) (at (place d)) (d .before .before .before .due-at .result) _ (ending (c .before) (ledger s) (is-room s)) in
     (allowed .0, omega (arith, allowed .1), omega (arith, allowed .2))
 
 -- what was reserved is part of an account
 amount-requires-2 : tie.Need-amount-requires-2
 amount-requires-2 c κs =
     let d = c .before .before .before .before .before .before .before .before in
-    let due = d .before .before .due-at in
+    let due = d .before .before .before .due-at in
     let allowed = found (place d) .allowed (due .result) (due .ensures) in
     omega (arith, allowed .1, seat-small _ (allowed .0) .reserved)
 
