@@ -168,11 +168,11 @@ module _ (last : Bool) where
     reserve-passes (suc n) reserved p = rw (p .asked .amount, with-account s (p .asked .present), le-ltb M (s .reserved + suc n) (p .fits), ← p .sum, p .within)
 
 module _ (s : Seat) (z : ℤ) (n reserved : ℕ) (passes : Passes s z n reserved) (d : Drawing) where
-  pub reserve-ids-used : d ≡ AllocatorExhausted → refuse (OverflowOfReserve (s .reserved)) ≡ reserveRule z (isUsedUp d) (accountOf s) (s .limit)
+  pub reserve-ids-used : d ≡ AllocatorExhausted → refuse (OverflowOfReserve (pos (s .reserved))) ≡ reserveRule z (isUsedUp d) (accountOf s) (s .limit)
   reserve-ids-used e = rw (reserve-passes (isUsedUp d) s z n reserved passes, e)
 
   module _ (id : Identifier) (drew : d ≡ TheIdentifier id) where
-    pub reserve-insufficient : s .remaining < n → lose (Insufficient (s .remaining) (pos n)) ≡ reserveRule z (isUsedUp d) (accountOf s) (s .limit)
+    pub reserve-insufficient : s .remaining < n → lose (Insufficient (pos (s .remaining)) (pos n)) ≡ reserveRule z (isUsedUp d) (accountOf s) (s .limit)
     reserve-insufficient short = rw (reserve-passes (isUsedUp d) s z n reserved passes, drew, lt-ltb (s .remaining) n short)
 
     pub reserve-books : n ≤ s .remaining

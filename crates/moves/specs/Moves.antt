@@ -74,9 +74,9 @@ limitingMove z (limiting.Changed s) = write [] (meaning s)
 abbrev pub reservingMove : ℤ → Reserving → Move
 reservingMove z reserving.NotPositive = refuse (Insufficient (pos 0) z)
 reservingMove z reserving.Missing = refuse MissingTenant
-reservingMove z (reserving.Overflow reserved) = refuse (OverflowOfReserve reserved)
-reservingMove z (reserving.Exposed reserved limit) = refuse (ExposureLimitExceeded reserved limit)
-reservingMove z (reserving.Insufficient remaining cost) = lose (Insufficient remaining (pos cost))
+reservingMove z (reserving.Overflow reserved) = refuse (OverflowOfReserve (pos reserved))
+reservingMove z (reserving.Exposed reserved limit) = refuse (ExposureLimitExceeded (pos reserved) (pos limit))
+reservingMove z (reserving.Insufficient remaining cost) = lose (Insufficient (pos remaining) (pos cost))
 reservingMove z (reserving.Booked s cost id) = book (s .remaining) (meaning s) (cost .0)
 
 abbrev pub committingSettlement : ℤ → Committing → Settlement

@@ -141,10 +141,10 @@ module _ (xs : List ℕ) (L : Ledger) (room : IsRoom xs L) (a : Name) where
       after left = ap (λ (d : Drawn). d .head) drew ∙ head-drawn h (next-below h loaded left) ∙ ap afterDraw (loaded ∙ head-is xs L room)
 
       -- an id drawn and lost
-      pub loses : (remaining cost : ℕ) → Decided L a z (w .drawing) (reserving.Insufficient remaining cost) → (t : Reply) → t ≡ replyOf (Insufficient remaining (pos cost))
+      pub loses : (remaining cost : ℕ) → Decided L a z (w .drawing) (reserving.Insufficient remaining cost) → (t : Reply) → t ≡ replyOf (Insufficient (pos remaining) (pos cost))
           → (ys : List ℕ) → length ys ≡ length xs → contentsOf ys ≡ withHead (w .head) (contentsOf xs) → Performed (λ K. operate K (reserve a z)) L t ys
       loses remaining cost d t q ys l k =
-          becomes (reserve a z) L xs room (bytes, amount) t (replyOf (Insufficient remaining (pos cost))) (drawn L) (d .move ∙ (unfold perform in refl)) q refl refl ys l
+          becomes (reserve a z) L xs room (bytes, amount) t (replyOf (Insufficient (pos remaining) (pos cost))) (drawn L) (d .move ∙ (unfold perform in refl)) q refl refl ys l
           (k ∙ ap₂ withHead (after (d .fits .1)) (room .holds) ∙ id-drawn L)
 
       pub books : (s : Seat) (cost : Held) (id : Identifier) → Decided L a z (w .drawing) (reserving.Booked s cost id) → (i : ℕ) → At i ≡ placeOfName a searched → {r : Reserved} {ys : List ℕ} → Booked i s cost id (w .head) xs r ys → Performed (λ K. operate K (reserve a z)) L (reservedReply r) ys

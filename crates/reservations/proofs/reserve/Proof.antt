@@ -103,8 +103,8 @@ returns-3 : tie.Need-returns-3
 returns-3 c L r =
     let d = c .before .before .before in
     let s = start d in
-    refuses (room s) L r (name s) (cost s) (Insufficient 0 (cost s)) _ reserving.NotPositive (told d _ (c .before .enum-told .given .1) L r) refl _
-    (ap (λ v. reply 6 (Amount v ∷ Amount (cost s) ∷ [])) (c .amount .ensures))
+    refuses (room s) L r (name s) (cost s) (Insufficient (pos 0) (cost s)) _ reserving.NotPositive (told d _ (c .before .enum-told .given .1) L r) refl _
+    (ap (λ v. replyOf (Insufficient v (cost s))) (c .amount .ensures))
 
 returns-4 : tie.Need-returns-4
 returns-4 c L r =
@@ -118,7 +118,7 @@ overflows c L r = told (c .before .before .before) _ (c .before .decided .given 
 returns-5 : tie.Need-returns-5
 returns-5 c L r =
     let s = start (c .before .before .before .before) in
-    refuses (room s) L r (name s) (cost s) (OverflowOfReserve _) _ _ (overflows (c .before) L r) refl _ (ap (λ v. reply 4 (Amount v ∷ [])) (c .amount2 .ensures))
+    refuses (room s) L r (name s) (cost s) (OverflowOfReserve _) _ _ (overflows (c .before) L r) refl _ (ap (λ v. replyOf (OverflowOfReserve v)) (c .amount2 .ensures))
 
 exposed : (c : tie.After-known-told2) → Decides (c .before .before .before) (reserving.Exposed (c .before .decided2 .given .0 .0) (c .before .decided2 .given .0 .1 .0))
 exposed c L r = told (c .before .before .before) _ (c .before .decided2 .given .1) L r
@@ -127,7 +127,7 @@ returns-6 : tie.Need-returns-6
 returns-6 c L r =
     let s = start (c .before .before .before .before .before) in
     refuses (room s) L r (name s) (cost s) (ExposureLimitExceeded _ _) _ _ (exposed (c .before .before) L r) refl _
-    (ap₂ (λ v w. reply 5 (Amount v ∷ Amount w ∷ [])) (c .before .amount3 .ensures) (c .amount4 .ensures))
+    (ap₂ (λ v w. replyOf (ExposureLimitExceeded v w)) (c .before .amount3 .ensures) (c .amount4 .ensures))
 
 -- ── an id drawn ────────────────────────────────────────────────────────────────────────────────
 
@@ -143,7 +143,7 @@ returns-7 c L r =
     let head = d .before .before .load-head in
     let drawn = d .before .after-draw in
     loses (room s) L r (name s) (cost s) (name-bytes d) (cost-fits s) (head .result) (head .ensures) (drawn .result) (drawn .ensures) _ _ (insufficient k L r) _
-    (ap₂ (λ v w. reply 6 (Amount v ∷ Amount w ∷ [])) (c .before .amount5 .ensures) (c .amount6 .ensures)) (put .last .0) (put .ensures .0) (put .ensures .1)
+    (ap₂ (λ v w. replyOf (Insufficient v w)) (c .before .amount5 .ensures) (c .amount6 .ensures)) (put .last .0) (put .ensures .0) (put .ensures .1)
 
 -- ── a booking ──────────────────────────────────────────────────────────────────────────────────
 
