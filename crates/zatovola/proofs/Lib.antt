@@ -1,2 +1,4 @@
+pub mod HandedOver
 pub mod RoomSize
 pub mod SameAnswers
+pub mod SameReads
