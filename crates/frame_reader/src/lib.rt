@@ -5,7 +5,8 @@ use numbers::Microcents;
 ghost use mathlib.Core.Path.{_≡_};
 ghost use mathlib.Core.Logic.{_⊎_};
 ghost use Prim.Native.Nat.{_≤_};
-ghost use Rattle.frame_reader.specs.Operations.{HasCode, ReadsAs, PartsWithin};
+ghost use Rattle.rules.specs.Frames.{operationOfFrame};
+ghost use Rattle.frame_reader.specs.Operations.{operationIn, HasCode, ReadsAs, PartsWithin};
 
 // Where a frame's parts stand: behind its code a word and perhaps another, or the length of a name and the name.
 pub const WORD_END: usize = 1 + 8;
@@ -13,6 +14,9 @@ pub const WORD_END: usize = 1 + 8;
 pub const TWO_WORDS_END: usize = WORD_END + 8;
 
 pub const NAME_START: usize = 1 + 1;
+
+// A migration and a certificate have the longest frames: the code, a word, a snapshot.
+pub const LONGEST_FRAME: usize = WORD_END + rules::LONGEST_SNAPSHOT;
 
 pub enum Frame {
     Ensure(usize, Microcents),
@@ -127,7 +131,7 @@ fn read_word_and_snapshot(code: u8, bytes: &[u8]) -> Frame
 }
 
 // A frame with a snapshot is passed over once; any other is read without a pass.
-pub fn read(bytes: &[u8]) -> Frame
+fn read_operation(bytes: &[u8]) -> Frame
     ensures operation { λ r. ⌜ ReadsAs (now (bytes .entry)) r ⌝ }
     ensures parts { λ r. ⌜ PartsWithin (now (bytes .entry)) r ⌝ }
 {
@@ -143,4 +147,15 @@ pub fn read(bytes: &[u8]) -> Frame
         10 | 12 => read_word_and_snapshot(code, bytes),
         _ => Frame::BadFrame,
     }
+}
+
+// Document 01, Frames: no line has more characters than the longest frame takes, and more bytes than it has are a bad frame however they come.
+pub fn read(bytes: &[u8]) -> Frame
+    ensures operation { λ r. ⌜ operationIn (now (bytes .entry)) r ≡ operationOfFrame (now (bytes .entry)) ⌝ }
+    ensures parts { λ r. ⌜ PartsWithin (now (bytes .entry)) r ⌝ }
+{
+    if LONGEST_FRAME < bytes.len() {
+        return Frame::BadFrame;
+    }
+    read_operation(bytes)
 }

@@ -1,6 +1,7 @@
 // A frame's bytes to its answer's bytes. What is known of the memory is handed in: a batch asks once whether it is the room of a sound ledger.
 use answer_bytes::LONGEST_OTHER_ANSWER;
 use frame_reader::Frame;
+use frame_reader::LONGEST_FRAME;
 use frame_reader::NAME_START;
 use frame_reader::WORD_END;
 use numbers::Identifier;
@@ -25,9 +26,6 @@ ghost use Rattle.frames.specs.Answering.{Known, AnswersInRoom, PromisesA
 
 // A snapshot behind its number: only a snapshot and a migration hand one out.
 pub const LONGEST_ANSWER: usize = 1 + rules::LONGEST_SNAPSHOT;
-
-// A migration and a certificate have the longest frames: the code, a word, a snapshot.
-pub const LONGEST_FRAME: usize = WORD_END + rules::LONGEST_SNAPSHOT;
 
 // Two characters a byte; an answer line has its line feed too.
 pub const LONGEST_LINE: usize = LONGEST_FRAME + LONGEST_FRAME;

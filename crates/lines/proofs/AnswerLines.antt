@@ -10,6 +10,7 @@ use lib.ListN.{length, getD, take, drop, set, length-append, take-append-drop}
 use lib.Seq.{drop-cons, drop-drop, drop-append-add, drop-append-le, set-at, take-at, length-take-le}
 use Rattle.rules.specs.AnswerNumbers.{Lent, sound, unsound, Reply}
 use Rattle.rules.specs.Frames.{Operation, lineFeed, replyBytes, lineOfBytes, answerLine, answerOr23}
+use Rattle.rules.proofs.FrameBytes.{line-length}
 use Rattle.room.specs.Room.{SoundRoom}
 use Rattle.soundness.specs.Facts.{Decides}
 use Rattle.answer_bytes.specs.Writing.{WritesReply}
@@ -31,11 +32,6 @@ some-lent true found = record { lent = sound (found .ledger); is-lent = found .i
 some-lent false found = record { lent = unsound; is-lent = found }
 
 -- ── the line ───────────────────────────────────────────────────────────────────────────────────
-
-pub line-length : (bs : List ℕ) → length (lineOfBytes bs) ≡ length bs + length bs
-unfolding lineOfBytes
-line-length [] = refl
-line-length (b ∷ bs) = omega (arith, line-length bs)
 
 module _ (before : List ℕ) (size : ℕ) (room : size + size < length before) where
   pub fed : {after : List ℕ} → after ≡ lineOfBytes (take size before) ++ drop (size + size) before

@@ -4,10 +4,10 @@ use mathlib.Core.List.{List}
 use mathlib.Core.Option.{Option, none, some}
 use Prim.Native.Nat.{ℕ, _≤_, _<_}
 use native.Mathlib.Omega.{arith}
-use borrow.Author.Tests.{lt-ltb, le-ltb}
+use borrow.Author.Tests.{lt-ltb}
 use lib.ListN.{length, take, drop, length-append}
 use lib.Seq.{take-at}
-use Rattle.rules.specs.Frames.{longestLine, bytesOfLine, operationOfLine, operationOfBytes}
+use Rattle.rules.specs.Frames.{longestLine, operationOfLine}
 use Rattle.digits.specs.declared.Decoded.{Decoded}
 use Rattle.digits.specs.declared.Decoded.the-variants.{Bytes, BadFrame}
 use Rattle.digits.specs.Decoding.{Decodes}
@@ -35,8 +35,3 @@ module _ (line : List ℕ) where
   pub too-long : longestLine < length line → operationOfLine line ≡ none
   unfolding operationOfLine
   too-long long = rw (lt-ltb longestLine (length line) long)
-
-  module _ (short : length line ≤ longestLine) where
-    pub operation-is : {bytes : Option (List ℕ)} → bytesOfLine line ≡ bytes → operationOfLine line ≡ operationOfBytes bytes
-    unfolding operationOfLine
-    operation-is {bytes} e = rw (le-ltb longestLine (length line) short, e)

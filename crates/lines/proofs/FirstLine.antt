@@ -8,7 +8,8 @@ use Prim.Native.Nat.{ℕ, suc, _+_, _-_, _≤_, _<_}
 use native.Mathlib.Omega.{arith}
 use lib.ListN.{length, take, drop, take-append-drop}
 use lib.Seq.{take-add, take-take, length-take-le}
-use Rattle.rules.specs.Frames.{Operation, longestLine, lineFeed, digitOf, byteBefore, bytesOfLine, operationOf, operationOfLine}
+use Rattle.rules.specs.Frames.{Operation, longestLine, lineFeed, digitOf, byteBefore, bytesOfLine, operationOfFrame, operationOfLine}
+use Rattle.rules.proofs.FrameBytes.{line-as-frame, no-bytes-no-frame}
 use Rattle.numbers.proofs.Bytes.{all-join}
 use Rattle.digits.specs.Decoding.{FrontDecoded}
 use Rattle.digits.proofs.Decoding.{wrong-pair}
@@ -18,7 +19,7 @@ use Rattle.lines.specs.declared.LineAnswer.{LineAnswer}
 use Rattle.lines.specs.declared.LineAnswer.the-variants as answered
 use Rattle.lines.specs.declared.LineEnd.the-variants as found
 use Rattle.lines.specs.declared.Next.{Next}
-use Rattle.lines.proofs.Decoded.{too-long, operation-is}
+use Rattle.lines.proofs.Decoded.{too-long}
 use Rattle.lines.proofs.LineFound.{line-stands}
 
 -- a line feed is no digit
@@ -57,14 +58,14 @@ module _ (input : List ℕ) (limit : ℕ) (within : limit ≤ length input) {bef
   pub front-line : IsLine (take (size + size) input)
   front-line = no-feed (take (size + size) input) (λ e. let z : _≡_ {A = ℕ} 0 1 = cc (e, front-bytes) in omega arith)
 
-  pub is-frame : limit ≤ longestLine → operationOfLine (take (size + size) input) ≡ operationOf (take size after)
-  is-frame short = operation-is (take (size + size) input) (omega (arith, f .within, long, length-take-le (size + size) input (omega (arith, f .within, long)))) front-bytes
+  pub is-frame : operationOfLine (take (size + size) input) ≡ operationOfFrame (take size after)
+  is-frame = line-as-frame (take (size + size) input) (take size after) front-bytes
 
   pub no-frame : ((end : ℕ) → end ≤ length input → end ≤ longestLine → end ≤ limit) → (end : ℕ) → size + size < end → end ≤ length input → operationOfLine (take end input) ≡ none
   no-frame reaches end behind inside =
       let line-length : length (take end input) ≡ end = length-take-le end input inside in
       ⊎-elim (λ over. too-long (take end input) (omega (arith, line-length)))
-      (λ short. operation-is (take end input) (omega (arith, line-length))
+      (λ short. no-bytes-no-frame (take end input)
       (ap bytesOfLine (sym (take-take end limit input (reaches end inside short))) ∙ f .no-frame end behind (omega (arith, long, reaches end inside short))))
       (less-or-not longestLine end)
 

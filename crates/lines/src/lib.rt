@@ -1,6 +1,6 @@
 // Lines of digits to answer lines: one line, or a batch that asks once whether the memory is the room of a sound ledger.
 use digits::Decoded;
-use frames::LONGEST_FRAME;
+use frame_reader::LONGEST_FRAME;
 use frames::LONGEST_LINE;
 use frames::LONGEST_OTHER_LINE;
 ghost use mathlib.Core.Path.{_≡_};
@@ -8,7 +8,7 @@ ghost use mathlib.Core.Option.{none};
 ghost use mathlib.Core.List.{List, _∷_, _++_};
 ghost use Prim.Native.Nat.{ℕ, _+_, _≤_, _<_};
 ghost use lib.ListN.{length, take, drop};
-ghost use Rattle.rules.specs.Frames.{longestLine, lineFeed, lineOfBytes, operationOf, operationOfLine};
+ghost use Rattle.rules.specs.Frames.{longestLine, lineFeed, lineOfBytes, operationOfFrame, operationOfLine};
 ghost use Rattle.frames.specs.Answering.{Known};
 ghost use Rattle.lines.specs.Batching.{PromisesLine, Ready, FirstFeed, nextOf, NextFound, PromisesNext, PromisesBatch, ProgressWithin};
 
@@ -52,7 +52,7 @@ fn finish(output: &mut [u8], size: usize) -> usize
 // A frame's bytes. Only the room for its longest answer is lent on, so that the answer is no longer.
 fn answer_frame(room: &mut [u8], known: bool, bytes: &[u8], output: &mut [u8]) -> LineAnswer
     requires { ⌜ Known known (now room) ⌝ }
-    ensures { λ r. ⌜ PromisesLine (operationOf (now (bytes .entry)))
+    ensures { λ r. ⌜ PromisesLine (operationOfFrame (now (bytes .entry)))
         (now (room .entry)) (now (room .exit)) (now (output .entry)) (now (output .exit)) r ⌝ }
 {
     let frame = frame_reader::read(bytes);

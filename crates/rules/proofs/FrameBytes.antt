@@ -1,9 +1,10 @@
--- A frame's line: its bytes have no other line, and an operation read from it lies within what the theorems about operations suppose. The digits
--- are undone pair by pair; what is read fits by the laws of readers (Reading), body by body along the table of codes.
-use mathlib.Core.Path.{_≡_, refl, subst}
-use mathlib.Core.Bool.{true, _&&_}
+-- A frame's line: its bytes have no other line, both are the same operation, and an operation read from it lies within what the theorems about operations
+-- suppose. The digits are undone pair by pair, so a line is twice as long as its bytes, and the two tests of length say the same; what is read fits by the laws
+-- of readers (Reading), body by body along the table of codes.
+use mathlib.Core.Path.{_≡_, refl, sym, subst, ap, _∙_}
+use mathlib.Core.Bool.{true, cond, _&&_}
 use mathlib.Core.List.{List, [], _∷_, _++_}
-use mathlib.Core.Option.{some}
+use mathlib.Core.Option.{none, some}
 use Prim.Native.Nat.{ℕ, _+_, _-_, _*_, _/_, _%_, _≤_, _<_}
 use native.Mathlib.Nat.{div-add-mod'}
 use native.Mathlib.Omega.{arith}
@@ -16,9 +17,9 @@ use Rattle.rules.specs.Lists.{first, All}
 use Rattle.rules.specs.RoomAndSoundLedger.{Name, IsByte, isInRange}
 use Rattle.rules.specs.AccountRules.{AccountOperation, ensure, topUp, limit, reserve}
 use Rattle.rules.specs.SnapshotsMigrationCertificates.{Snapshot, bytesOf}
-use Rattle.rules.specs.Frames.{digitOf, byteBefore, bytesOfLine, Operation, restoreFrom, recoverFrom, judge, migrateTo, certify, nameAndAmount, aSnapshot, codes, bodyOf, readOperation, operationOf, characterOf, lineOfBytes, operationOfBytes, longestLine, operationOfLine}
+use Rattle.rules.specs.Frames.{digitOf, byteBefore, bytesOfLine, Operation, restoreFrom, recoverFrom, judge, migrateTo, certify, nameAndAmount, aSnapshot, codes, bodyOf, readOperation, operationOf, characterOf, lineOfBytes, operationOfBytes, longestFrame, longestLine, operationOfLine, operationOfFrame}
 use Rattle.rules.specs.Domain.{IsAmount, IsBytes, AccountOperationFits, SnapshotFits, OperationFits}
-use Rattle.rules.proofs.Tests.{by-test, by-option, and-true, none-some}
+use Rattle.rules.proofs.Tests.{by-test, by-bool, by-option, and-true, none-some}
 use Rattle.rules.proofs.Lists.{first-all}
 use Rattle.rules.proofs.Reading.{Read, ReadsAfter, only-reads, whole-only, number-only, amount-only, name-only, only-then}
 use Rattle.rules.proofs.SnapshotBytes.{readSnapshot-only}
@@ -70,6 +71,31 @@ line-only (c ∷ d ∷ cs) bs e = by-option (λ o. byteBefore (digitOf c) (digit
     let v : (digitOf c * 16 + digitOf d) ∷ rest ≡ bs = cc in
     subst (OnlyLine (c ∷ d ∷ cs)) v ((omega arith, bytes), rw (digits-div (digitOf c) low, digits-mod (digitOf c) low, character-of-digit c high, character-of-digit d low, is)))
     (λ t q. none-some q)) e
+
+pub line-length : (bs : List ℕ) → length (lineOfBytes bs) ≡ length bs + length bs
+unfolding lineOfBytes
+line-length [] = refl
+line-length (b ∷ bs) = omega (arith, line-length bs)
+
+-- ── a frame as bytes and as a line ─────────────────────────────────────────────────────────────
+
+module _ (line : List ℕ) where
+  pub line-as-frame : (bs : List ℕ) → bytesOfLine line ≡ some bs → operationOfLine line ≡ operationOfFrame bs
+  unfolding operationOfLine operationOfFrame
+  line-as-frame bs e =
+      let size : length line ≡ length bs + length bs = ap length (sym (line-only line bs e .1)) ∙ line-length bs in
+      let same : ltb longestLine (length line) ≡ ltb longestFrame (length bs) = by-bool (λ b. ltb longestLine (length line) ≡ b) (ltb longestFrame (length bs))
+      (λ long. lt-ltb longestLine (length line) (omega (arith, size, ltb-true longestFrame (length bs) long)))
+      (λ short. le-ltb longestLine (length line) (omega (arith, size, ltb-false longestFrame (length bs) short))) in
+      ap (λ long. cond long none (operationOfBytes (bytesOfLine line))) same ∙ ap (λ o. cond (ltb longestFrame (length bs)) none (operationOfBytes o)) e
+
+  pub no-bytes-no-frame : bytesOfLine line ≡ none → operationOfLine line ≡ none
+  unfolding operationOfLine
+  no-bytes-no-frame e = by-test (λ o. o ≡ none) (ltb longestLine (length line)) (λ _. refl) (λ _. ap operationOfBytes e)
+
+-- whichever way a frame comes, it is the same operation
+pub frame-as-line : (bs : List ℕ) → All IsByte bs → operationOfFrame bs ≡ operationOfLine (lineOfBytes bs)
+frame-as-line bs bytes = sym (line-as-frame (lineOfBytes bs) bs (line-back bs bytes))
 
 -- ── an operation read fits ─────────────────────────────────────────────────────────────────────
 

@@ -142,6 +142,10 @@ longestLine = longestFrame + longestFrame
 unfoldable pub operationOfLine : List ℕ → Option Operation
 operationOfLine line = cond (ltb longestLine (length line)) none (operationOfBytes (bytesOfLine line))
 
+-- the same for a frame that comes as bytes and not as a line: 23 for more of them than a line can spell, whatever they hold
+unfoldable pub operationOfFrame : List ℕ → Option Operation
+operationOfFrame bs = cond (ltb longestFrame (length bs)) none (operationOf bs)
+
 abbrev pub answerOr23 : Lent → Option Operation → Answered
 answerOr23 l none = answered (replyOf BadFrame) l
 answerOr23 l (some x) = answer l x

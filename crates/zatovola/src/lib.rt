@@ -7,7 +7,7 @@ ghost use mathlib.Core.Path.{_≡_};
 ghost use mathlib.Core.List.{[]};
 ghost use Rattle.rules.specs.RoomAndSoundLedger.{made};
 ghost use Rattle.rules.specs.AnswerNumbers.{reply};
-ghost use Rattle.rules.specs.Frames.{operationOf};
+ghost use Rattle.rules.specs.Frames.{operationOfFrame};
 ghost use Rattle.soundness.specs.Making.{madeIn, Makes};
 ghost use Rattle.lines.specs.Batching.{PromisesBatch, ProgressWithin};
 ghost use Rattle.zatovola.specs.Interface.{bytesOfRoom, PromisesFrame, progress};
@@ -52,7 +52,7 @@ pub extern "C" fn zatovola_make(room: &mut [u8], names: u64, reservations: u64) 
 // A frame's bytes to its answer's bytes, and how many these are: 0, and nothing changed, where the output has no room for the longest answer to this frame.
 #[no_mangle]
 pub extern "C" fn zatovola_answer(room: &mut [u8], frame: &[u8], output: &mut [u8]) -> usize
-    ensures { λ r. ⌜ PromisesFrame (operationOf (now (frame .entry)))
+    ensures { λ r. ⌜ PromisesFrame (operationOfFrame (now (frame .entry)))
         (now (room .entry)) (now (room .exit)) (now (output .entry)) (now (output .exit)) r ⌝ }
 {
     let operation = frame_reader::read(frame);

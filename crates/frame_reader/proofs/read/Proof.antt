@@ -1,57 +1,29 @@
--- `frame_reader::read`: each arm's reader has promised the operation of its codes, so search returns it. By hand is what a range and a `|` leave of the code:
--- which of 8, 9 and 14 it is, and that what no arm takes is above 14 or 0 (`unknown` of Codes.antt).
-use mathlib.Core.Path.{_≡_, refl, sym}
-use mathlib.Core.Logic.{_⊎_, inl, inr, ⊎-elim, _≢_}
+-- `frame_reader::read`: the definition's own test on the length is the code's; behind it the bytes' operation is what `read_operation` has promised.
+use mathlib.Core.Path.{_≡_, sym, _∙_}
 use mathlib.Core.List.{List}
-use Prim.Native.Nat.{ℕ}
-use native.Mathlib.Omega.{arith}
+use mathlib.Core.Option.{none}
+use Prim.Native.Nat.{ℕ, _≤_, _<_}
+use borrow.Author.Tests.{lt-ltb, le-ltb}
 use borrow.Author.Needs.{needs}
-use lib.ListN.{getD}
-use Rattle.rules.proofs.Tests.{equal-or-not}
-use Rattle.frame_reader.proofs.Codes.{empty, unknown}
+use lib.ListN.{length}
+use Rattle.rules.specs.Frames.{longestFrame, operationOf, operationOfFrame}
 use Rattle.frame_reader.proofs.read.Statement.{statement}
 use Rattle.frame_reader.proofs.read.Tie as tie
 
--- the arms 8 and 9 come as a range, and 14 by itself
-read-snapshot-requires : tie.Need-read-snapshot-requires
-read-snapshot-requires c κs =
-    let code : ℕ = getD (c .before .before .before .before .args .bytes .now) 0 0 in
-    let one : (code ≡ 8) ⊎ (code ≡ 9) ⊎ (code ≡ 14) = ⊎-elim
-    (λ k. inr (inr (k .keys2)))
-    (λ range. let seven : code ≢ 7 = λ e. range .0 .rest .0 .0 .1 (inl e) in
-    ⊎-elim (λ e. inl e) (λ other. inr (inl (omega (arith, range)))) (equal-or-not code 8))
-    (c .match .came) in
-    ((omega arith, refl), one)
+module _ (bs : List ℕ) where
+  too-long : longestFrame < length bs → operationOfFrame bs ≡ none
+  unfolding operationOfFrame
+  too-long long = rw (lt-ltb longestFrame (length bs) long)
 
-returns-6 : tie.Need-returns-6
-returns-6 c = (sym (unknown (c .before .before .before .before .before .args .bytes .now) (omega arith) (λ low. absurd (omega arith))), tt)
+  no-longer : length bs ≤ longestFrame → operationOfFrame bs ≡ operationOf bs
+  unfolding operationOfFrame
+  no-longer short = rw (le-ltb longestFrame (length bs) short)
 
-returns-7 : tie.Need-returns-7
-returns-7 c =
-    let bytes : List ℕ = c .before .before .before .before .before .before .before .before .args .bytes .now in
-    let code : ℕ = getD bytes 0 0 in
-    let other = c .before .before .before .before .match .rest in
-    let ten : code ≢ 10 = λ e. other .1 (inl e) in
-    let eleven : code ≢ 11 = λ e. other .0 .0 .1 (inr (inl e)) in
-    let twelve : code ≢ 12 = λ e. other .1 (inr e) in
-    let thirteen : code ≢ 13 = λ e. other .0 .0 .1 (inr (inr e)) in
-    (sym (unknown bytes (omega arith) (λ _. omega arith)), tt)
+returns : tie.Need-returns
+returns c = (sym (too-long _ (c .if1 .taken)), tt)
+
+returns-2 : tie.Need-returns-2
+returns-2 c = (c .read-operation .ensures .0 ∙ sym (no-longer _ (c .before .if1 .left)), c .read-operation .ensures .1)
 
 pub read-spec : {M : Type 1} → statement M
-read-spec =
-    tie.close
-    (tie.spec
-    (λ c. (sym (empty _ (c .if1 .taken)), tt))
-    (λ c. search needs)
-    (λ c κs. search needs)
-    (λ c κs. search needs)
-    (λ c κs. search needs)
-    (λ c κs. search needs)
-    read-snapshot-requires
-    (λ c. search needs)
-    (λ c. search needs)
-    (λ c. search needs)
-    (λ c. search needs)
-    returns-6
-    returns-7
-    (λ c. search needs))
+read-spec = tie.close (tie.spec returns (λ c κs. search needs) returns-2)

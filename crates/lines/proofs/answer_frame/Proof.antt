@@ -8,7 +8,7 @@ use native.Mathlib.Omega.{arith}
 use borrow.Author.Needs.{needs}
 use lib.ListN.{length, take, drop}
 use lib.Seq.{length-front, length-take-le}
-use Rattle.rules.specs.Frames.{Operation, operationOf}
+use Rattle.rules.specs.Frames.{Operation, operationOfFrame}
 use Rattle.frames.specs.Answering.{AnswersOperation, PromisesAnswer, longestAnswer, roomFor}
 use Rattle.frames.proofs.Arms.{room-bounds}
 use Rattle.lines.proofs.AnswerLines.{some-lent, within, put-back, line-written}
@@ -21,7 +21,7 @@ module _ (c : tie.After-room-for) where
   start = c .before .before .before .before .before
 
   abbrev operation : Option Operation
-  operation = operationOf (start .args .bytes .now)
+  operation = operationOfFrame (start .args .bytes .now)
 
   needed-is : c .room-for .result ≡ roomFor operation
   needed-is = let read = c .before .read in c .room-for .ensures (start .args .bytes .now) (read .ensures .1) ∙ ap roomFor (read .ensures .0)

@@ -2,14 +2,14 @@
 -- the callee's promise carried along that equation.
 use mathlib.Core.Path.{_≡_, sym, subst}
 use mathlib.Core.List.{List}
-use Prim.Native.Nat.{ℕ, _≤_}
+use Prim.Native.Nat.{ℕ}
 use borrow.Author.Needs.{needs}
-use lib.ListN.{length}
 use lib.Seq.{length-take-le}
-use Rattle.rules.specs.Frames.{longestLine, bytesOfLine}
+use Rattle.rules.specs.Frames.{bytesOfLine}
+use Rattle.rules.proofs.FrameBytes.{line-as-frame, no-bytes-no-frame}
 use Rattle.digits.specs.declared.Decoded.the-variants.{Bytes}
 use Rattle.lines.specs.Batching.{LineAnswered}
-use Rattle.lines.proofs.Decoded.{FrontHas, front-has, has-none, too-long, operation-is}
+use Rattle.lines.proofs.Decoded.{FrontHas, front-has, has-none, too-long}
 use Rattle.lines.proofs.answer_line.Statement.{statement}
 use Rattle.lines.proofs.answer_line.Tie as tie
 
@@ -22,9 +22,6 @@ module _ (c : tie.After-bytes-of-line) where
 
   abbrev work : List ℕ
   work = c .bytes-of-line .last .1 .0
-
-  short : length line ≤ longestLine
-  short = c .before .before .if1 .left
 
   front : {size : ℕ} → c .bytes-of-line .result ≡ Bytes size → FrontHas (bytesOfLine line) work size
   front is = front-has (start .args .work .now) work (bytesOfLine line) (c .bytes-of-line .ensures) is
@@ -44,7 +41,7 @@ returns-2 c l is-lent =
     let read = told .before .before .before .before in
     let s = start read in
     let no-bytes = has-none (s .args .work .now) (work read) (bytesOfLine (line read)) (read .bytes-of-line .ensures) (told .enum-told .given .1) in
-    subst (λ o. LineAnswered o l (s .args .room .now) (s .args .room .now) (s .args .output .now) (call .answer-no-frame2 .last .0) (call .answer-no-frame2 .result)) (sym (operation-is (line read) (short read) no-bytes))
+    subst (λ o. LineAnswered o l (s .args .room .now) (s .args .room .now) (s .args .output .now) (call .answer-no-frame2 .last .0) (call .answer-no-frame2 .result)) (sym (no-bytes-no-frame (line read) no-bytes))
     (call .answer-no-frame2 .ensures (s .args .room .now) l is-lent)
 
 slice-reshare-prefix-answer-frame : tie.Need-slice-reshare-prefix-answer-frame
@@ -60,7 +57,7 @@ returns-3 c l is-lent =
     let read = chosen .before .before .before .before in
     let s = start read in
     subst (λ o. LineAnswered o l (s .args .room .now) (call .answer-frame .last .0) (s .args .output .now) (call .answer-frame .last .1 .1 .1 .0) (call .answer-frame .result))
-    (sym (operation-is (line read) (short read) (front read (chosen .size .given .1) .are)))
+    (sym (line-as-frame (line read) _ (front read (chosen .size .given .1) .are)))
     (call .answer-frame .ensures l is-lent)
 
 pub answer-line-spec : {M : Type 1} → statement M

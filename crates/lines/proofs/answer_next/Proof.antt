@@ -9,7 +9,7 @@ use native.Mathlib.Omega.{arith}
 use borrow.Author.Needs.{needs}
 use lib.ListN.{length, take}
 use lib.Seq.{length-take-le}
-use Rattle.rules.specs.Frames.{operationOf, operationOfLine}
+use Rattle.rules.specs.Frames.{operationOfFrame, operationOfLine}
 use Rattle.digits.specs.Decoding.{FrontDecoded}
 use Rattle.lines.specs.Batching.{FirstFeed, FirstLine}
 use Rattle.lines.specs.declared.LineEnd.the-variants as found
@@ -100,8 +100,8 @@ returns-3 c =
     let s = shortened r in
     let g = start s .args in
     let here : end k ≡ size r + size r = omega (arith, found-at k .0, e .if1 .left) in
-    told (input s) (g .room .now) (a .answer-frame .last .0) (g .output .now) (a .answer-frame .last .1 .1 .1 .0) (end k) (first k) (operationOf (take (size r) (bytes r))) (a .answer-frame .result) (c .next-at2 .ensures)
-    (ap (λ n. operationOfLine (take n (input s))) here ∙ is-frame (input s) (limit s) (s .front-limit .ensures .0) (front r) (s .front-limit .ensures .1))
+    told (input s) (g .room .now) (a .answer-frame .last .0) (g .output .now) (a .answer-frame .last .1 .1 .1 .0) (end k) (first k) (operationOfFrame (take (size r) (bytes r))) (a .answer-frame .result) (c .next-at2 .ensures)
+    (ap (λ n. operationOfLine (take n (input s))) here ∙ is-frame (input s) (limit s) (s .front-limit .ensures .0) (front r))
     (a .answer-frame .ensures)
 
 pub answer-next-spec : {M : Type 1} → statement M

@@ -7,7 +7,7 @@ use native.Mathlib.Omega.{arith}
 use borrow.Author.Needs.{needs}
 use lib.ListN.{length}
 use Rattle.rules.specs.AnswerNumbers.{Lent}
-use Rattle.rules.specs.Frames.{Operation, operationOf}
+use Rattle.rules.specs.Frames.{Operation, operationOfFrame}
 use Rattle.frames.specs.Answering.{IsLent, AnswersOperation, roomFor}
 use Rattle.lines.proofs.AnswerLines.{found}
 use Rattle.zatovola.proofs.zatovola_answer.Statement.{statement}
@@ -18,7 +18,7 @@ module _ (c : tie.After-room-for) where
   start = c .before .before .before .before .before
 
   abbrev operation : Option Operation
-  operation = operationOf (start .args .frame .now)
+  operation = operationOfFrame (start .args .frame .now)
 
   needed-is : c .room-for .result ≡ roomFor operation
   needed-is = let read = c .before .read in c .room-for .ensures (start .args .frame .now) (read .ensures .1) ∙ ap roomFor (read .ensures .0)
