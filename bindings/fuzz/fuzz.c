@@ -6,6 +6,8 @@
  *   - that a refused call, answer 24 among them, has changed no byte of the room (6 and 15 may move the id counter);
  *   - that a room which was a sound ledger is one after the call;
  *   - that the same call on the same bytes gives the same answer, room and output.
+ * On the room before each call the nine reads are made too, of names in it and others: it is asked that a read changes no byte of the room, that its number is one
+ * that this read can have and 24 exactly where the room is no sound ledger, that a refusal leaves the lent place as it was, and that no amount is negative.
  */
 #define _GNU_SOURCE
 #include "../zatovola.h"
@@ -55,7 +57,7 @@ static Lent rooms, inputs, outputs;
 static uint8_t sound_room[LARGEST_ROOM], room_before[LARGEST_ROOM], room_after[LARGEST_ROOM];
 static uint8_t output_before[LARGEST_OUTPUT], output_after[LARGEST_OUTPUT];
 static size_t sound_size;
-static uint64_t calls[25], batches, lines_answered;
+static uint64_t calls[25], batches, lines_answered, reads[25];
 
 static const uint64_t WORDS[] = {0, 1, 2, 3, 5, 100, 1000, 0x7fffffffffffffffu, 0x7ffffffffffffffeu, 0x8000000000000000u, 0x8000000000000001u, 0xffffffffffffffffu};
 
@@ -179,6 +181,53 @@ static void judge(Call *call, const uint8_t *input, size_t used, size_t input_si
     }
 }
 
+typedef uint8_t OfName(const uint8_t *room, size_t room_length, const uint8_t *name, size_t name_length, int64_t *value);
+typedef uint8_t Amount(const uint8_t *room, size_t room_length, int64_t *value);
+typedef uint8_t Number(const uint8_t *room, size_t room_length, uint64_t *value);
+
+static OfName *const OF_NAME[] = {zatovola_remaining, zatovola_initial, zatovola_committed, zatovola_reserved};
+static Amount *const AMOUNTS[] = {zatovola_committed_total, zatovola_committed_since};
+static Number *const NUMBERS[] = {zatovola_accounts, zatovola_live_reservations, zatovola_last_version};
+
+/* What a read came to: before it the place held `before`. */
+static void judge_read(const uint8_t *room, size_t room_size, int was_sound, uint8_t number, int can_have, int64_t before, int64_t after) {
+    if (memcmp(room, room_before, room_size) != 0) fail("a read changed the room");
+    if ((number == 24) == was_sound) fail("24 for a sound ledger, or none for another");
+    if (number != 0 && number != 24 && !can_have) fail("an answer that this read does not have");
+    if (number != 0 && after != before) fail("a refused read changed the lent place");
+    reads[number]++;
+}
+
+/* The nine reads of one room, the place for the value against a page that nothing may touch. */
+static void ask_reads(const uint8_t *room, size_t room_size, int was_sound) {
+    uint8_t scratch[64], number;
+    size_t name_size = put_name(scratch) - 1;
+    uint8_t *name = part(inputs, name_size);
+    void *place = outputs.first + outputs.size - sizeof(uint64_t);
+    memcpy(name, scratch + 1, name_size);
+    for (size_t i = 0; i < 4; i++) {
+        int64_t before = (int64_t)chance(), *value = place;
+        *value = before;
+        number = OF_NAME[i](room, room_size, name, name_size, value);
+        judge_read(room, room_size, was_sound, number, name_size > 24 ? number == 19 : i < 3 && number == 3, before, *value);
+        if (number == 0 && (*value < 0 || name_size > 24)) fail("no amount of this name");
+    }
+    for (size_t i = 0; i < 2; i++) {
+        int64_t before = (int64_t)chance(), *value = place;
+        *value = before;
+        number = AMOUNTS[i](room, room_size, value);
+        judge_read(room, room_size, was_sound, number, i == 0 && number == 15, before, *value);
+        if (number == 0 && *value < 0) fail("an amount below 0");
+    }
+    for (size_t i = 0; i < 3; i++) {
+        uint64_t before = chance(), *value = place;
+        *value = before;
+        number = NUMBERS[i](room, room_size, value);
+        judge_read(room, room_size, was_sound, number, 0, (int64_t)before, (int64_t)*value);
+        if (number == 0 && i < 2 && *value > MOST_RESERVATIONS) fail("more than there is room for");
+    }
+}
+
 static void once(Call *call) {
     uint8_t scratch[LARGEST_INPUT + 4096], start[LARGEST_ROOM];
     size_t room_size = put_room(start), input_size = call == one_frame ? put_frame(scratch, sizeof scratch) : put_lines(scratch);
@@ -201,6 +250,7 @@ static void once(Call *call) {
     was_sound = is_sound(room, room_size);
     if (memcmp(room, room_before, room_size) != 0) fail("a release of id 0 changed the room");
     judge(call, input, used[0], input_size, written[0], output_size, room_size, was_sound);
+    ask_reads(room, room_size, was_sound);
     if (!was_sound) return;
     memcpy(room, room_after, room_size);
     if (!is_sound(room, room_size)) fail("a sound ledger is sound no more");
@@ -223,6 +273,8 @@ int main(int count, char **words) {
     }
     printf("%lu calls in %ld seconds; %lu batches with %lu lines answered; answers of single frames:", (unsigned long)total, seconds, (unsigned long)batches, (unsigned long)lines_answered);
     for (int n = 0; n < 25; n++) printf(" %d: %lu", n, (unsigned long)calls[n]);
+    printf("; of reads:");
+    for (int n = 0; n < 25; n++) if (reads[n] > 0) printf(" %d: %lu", n, (unsigned long)reads[n]);
     printf("\nno crash, no room changed under a refusal, every sound ledger still sound\n");
     return 0;
 }

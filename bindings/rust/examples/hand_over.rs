@@ -1,5 +1,6 @@
-//! The rebalance of 5:20. Four partitions have a ledger each; at the rebalance two airlines' messages change places, and one partition, its bookings settled, moves
-//! to another worker by snapshot and recovery restore. At the end every airline's balances are those of one ledger that nothing disturbed.
+//! The rebalance of 5:20. Four partitions have a ledger each; at the rebalance two airlines' messages change places, and two partitions move to other workers: one,
+//! its bookings settled, by snapshot and recovery restore; the other, with live bookings and a limit, as the bytes of its room. At the end every airline's balances
+//! are those of one ledger that nothing disturbed.
 //! cargo run --example hand_over
 
 use std::collections::HashMap;
@@ -11,8 +12,10 @@ const NIGHT: &str = include_str!("night.txt");
 const PARTITIONS: [[&str; 3]; 4] = [["AF", "BA", "KL"], ["LH", "LX", "OS"], ["TP", "UX", "IB"], ["SK", "AY", "DY"]];
 /// Two airlines of one partition, whose messages after the rebalance come in the other order.
 const CHANGED_PLACES: [&str; 2] = ["BA", "KL"];
-/// The partition that moves. It has no limits: those are no part of a snapshot, and a new owner would have to set them again.
-const MOVES: usize = 2;
+/// The partition that moves by snapshot. It has no limits: those are no part of a snapshot, and a new owner would have to set them again.
+const SETTLED: usize = 2;
+/// The partition that moves as the bytes of its room: bookings are live, and LH has a limit.
+const LIVE: usize = 1;
 
 #[derive(Clone, Debug, PartialEq)]
 struct Message {
@@ -67,11 +70,19 @@ impl Worker {
     }
 
     /// Another worker takes the partition over: its balances come by snapshot, and no booking is live.
-    fn hand_over(mut self) -> Result<Worker, Refusal> {
+    fn hand_over_by_snapshot(mut self) -> Result<Worker, Refusal> {
         let snapshot = self.ledger.snapshot()?;
         let mut next = Worker { ledger: Ledger::new(256, 1_024)?, ..self };
         next.ledger.recovery_restore(snapshot.bytes())?;
         Ok(next)
+    }
+
+    /// Another worker takes the partition over as it is: the bytes of its room hold bookings, their ids and limits too. It asks of them only that they are a sound
+    /// ledger.
+    fn hand_over_by_room(self) -> Result<Worker, Refusal> {
+        let Worker { ledger, granted, answers } = self;
+        let bytes = ledger.into_room();
+        Ok(Worker { ledger: Ledger::from_room(bytes)?, granted, answers })
     }
 }
 
@@ -104,8 +115,12 @@ pub fn run() -> Result<Vec<SideBySide>, Refusal> {
     let mut workers = [Worker::new()?, Worker::new()?, Worker::new()?, Worker::new()?];
     let owner = |m: &Message| PARTITIONS.iter().position(|p| p.contains(&m.airline.as_str())).expect("a partition");
     before.iter().for_each(|m| workers[owner(m)].take(m));
-    let moved = std::mem::replace(&mut workers[MOVES], Worker::new()?).hand_over()?;
-    workers[MOVES] = moved;
+    assert_eq!(workers[SETTLED].ledger.live_reservations()?, 0, "a snapshot of live bookings could not be restored");
+    assert!(workers[LIVE].ledger.live_reservations()? > 0, "bookings are live while they move");
+    let settled = std::mem::replace(&mut workers[SETTLED], Worker::new()?);
+    workers[SETTLED] = settled.hand_over_by_snapshot()?;
+    let live = std::mem::replace(&mut workers[LIVE], Worker::new()?);
+    workers[LIVE] = live.hand_over_by_room()?;
     let changed = change_places(&after);
     assert_ne!(changed, after, "two airlines' messages come in another order");
     changed.iter().for_each(|m| workers[owner(m)].take(m));

@@ -1,7 +1,8 @@
 //! Zatovola: a prepaid-money ledger whose every answer is proved, for workers in Rust.
 //!
 //! A [`Ledger`] owns its room. Every operation of document 01 is a method; a refusal is a [`Refusal`] with the paper's number, name and values, and changes no
-//! balance. Each single call asks whether the whole room is a sound ledger; [`Ledger::batch`] asks once for many lines.
+//! balance. The nine reads are methods too, and change nothing. Each single call asks whether the whole room is a sound ledger; [`Ledger::batch`] asks once for
+//! many lines.
 //!
 //! ```
 //! use zatovola::{Ledger, Microcents};
@@ -11,6 +12,7 @@
 //! let booking = ledger.reserve(b"Q1", Microcents(300))?;
 //! let settled = ledger.commit(booking.id, Microcents(250))?;
 //! assert_eq!(settled.remaining, Microcents(750));
+//! assert_eq!(ledger.committed(b"Q1")?, Microcents(250));
 //! # Ok::<(), zatovola::Refusal>(())
 //! ```
 
@@ -113,16 +115,18 @@ impl Ledger {
         }
     }
 
-    /// A ledger over bytes that were a room once. Nothing is assumed of them: where they are no sound ledger every operation is refused with
-    /// [`Refusal::UnsoundLedger`].
-    pub fn from_room(room: Vec<u8>) -> Ledger {
-        Ledger { room: room.into_boxed_slice() }
+    /// The ledger whose room these bytes are, with its accounts, limits and live bookings as they were. Nothing is assumed of the bytes:
+    /// [`Refusal::UnsoundLedger`] where they are no sound ledger.
+    pub fn from_room(room: Vec<u8>) -> Result<Ledger, Refusal> {
+        told(interface::live_reservations(&room))?;
+        Ok(Ledger { room: room.into_boxed_slice() })
     }
 
     pub fn room(&self) -> &[u8] {
         &self.room
     }
 
+    /// All that the ledger is, as bytes, to be moved or kept: [`Ledger::from_room`] takes it up again where it was left.
     pub fn into_room(self) -> Vec<u8> {
         self.room.into_vec()
     }
@@ -156,6 +160,48 @@ impl Ledger {
         self.ask(&Frame::settlement(6, id, None), |v| Settled { remaining: v.amount(), amount: v.amount() })
     }
 
+    /// What an airline has left to reserve. Like every read it changes nothing, and draws no id as a snapshot does.
+    pub fn remaining(&self, name: &[u8]) -> Result<Microcents, Refusal> {
+        told(interface::remaining(&self.room, name)).map(Microcents)
+    }
+
+    /// What an airline has prepaid, with all top-ups.
+    pub fn initial(&self, name: &[u8]) -> Result<Microcents, Refusal> {
+        told(interface::initial(&self.room, name)).map(Microcents)
+    }
+
+    /// What an airline has paid for deliveries.
+    pub fn committed(&self, name: &[u8]) -> Result<Microcents, Refusal> {
+        told(interface::committed(&self.room, name)).map(Microcents)
+    }
+
+    /// What an airline's live bookings set aside; 0 where the name has no account, which the other three reads refuse with [`Refusal::MissingTenant`].
+    pub fn reserved(&self, name: &[u8]) -> Result<Microcents, Refusal> {
+        told(interface::reserved(&self.room, name)).map(Microcents)
+    }
+
+    /// What all airlines have paid for deliveries; [`Refusal::AggregateOverflow`] where that is no amount.
+    pub fn committed_total(&self) -> Result<Microcents, Refusal> {
+        told(interface::committed_total(&self.room)).map(Microcents)
+    }
+
+    pub fn accounts(&self) -> Result<u64, Refusal> {
+        told(interface::accounts(&self.room))
+    }
+
+    pub fn live_reservations(&self) -> Result<u64, Refusal> {
+        told(interface::live_reservations(&self.room))
+    }
+
+    pub fn last_version(&self) -> Result<u64, Refusal> {
+        told(interface::last_version(&self.room))
+    }
+
+    /// What is committed above the baseline, which a certificate of the ledger moves up and a restore sets.
+    pub fn committed_since(&self) -> Result<Microcents, Refusal> {
+        told(interface::committed_since(&self.room)).map(Microcents)
+    }
+
     pub fn snapshot(&mut self) -> Result<Snapshot, Refusal> {
         answered(&mut self.room, &[7], &mut vec![0; LONGEST_ANSWER], |v| Snapshot::of(v.rest()))
     }
@@ -184,7 +230,8 @@ impl Ledger {
         })
     }
 
-    /// Any bytes as a frame, to its answer's bytes: how many were written, or none where the output is shorter than the longest answer to this frame.
+    /// Any bytes as a frame, to its answer's bytes: how many were written, or none where the output is shorter than the longest answer to this frame. More bytes
+    /// than the longest frame has are [`Refusal::BadFrame`], as they are as a line.
     pub fn answer(&mut self, frame: &[u8], output: &mut [u8]) -> usize {
         interface::answer(&mut self.room, frame, output)
     }
@@ -217,6 +264,14 @@ pub fn conservation_status(snapshot: &[u8]) -> Result<(), Refusal> {
 fn answered<T>(room: &mut [u8], frame: &[u8], output: &mut [u8], done: impl FnOnce(&mut Values) -> T) -> Result<T, Refusal> {
     let written = interface::answer(room, frame, output);
     answer::read(output.get(..written).unwrap_or_default()).map(|mut values| done(&mut values))
+}
+
+/// A read's value, or its refusal: those that a read meets carry nothing.
+fn told<T>((number, value): interface::Told<T>) -> Result<T, Refusal> {
+    match number {
+        0 => Ok(value),
+        _ => Err(Refusal::of(number, &mut Values::of(&[]))),
+    }
 }
 
 fn certificate(values: &mut Values) -> Certificate {

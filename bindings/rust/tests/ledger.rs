@@ -133,18 +133,77 @@ fn refusals_of_supplied_snapshots() {
 }
 
 #[test]
-fn a_room_of_any_bytes_is_answered_24_and_stays() {
-    for room in [vec![], vec![0; 35_384], vec![255; 35_384], b"no ledger at all".to_vec()] {
-        let mut ledger = Ledger::from_room(room.clone());
-        assert_eq!(ledger.ensure(b"Q1", Microcents(1)), Err(Refusal::UnsoundLedger));
-        assert_eq!(ledger.ensure(&[b'n'; 25], Microcents(1)), Err(Refusal::UnsoundLedger));
-        assert_eq!(ledger.snapshot(), Err(Refusal::UnsoundLedger));
-        assert_eq!(ledger.restore(&[1]), Err(Refusal::BadFrame));
-        assert_eq!(ledger.into_room(), room);
+fn reads_of_one_name() {
+    let mut ledger = open(1_000);
+    let booking = reserve(&mut ledger, 300).unwrap();
+    reserve(&mut ledger, 40).unwrap();
+    ledger.commit(booking.id, Microcents(250)).unwrap();
+    ledger.top_up(b"Q1", Microcents(5)).unwrap();
+    ledger.limit(b"limited", Microcents(9)).unwrap();
+    let room = ledger.room().to_vec();
+    assert_eq!(ledger.remaining(b"Q1"), Ok(Microcents(715)));
+    assert_eq!(ledger.initial(b"Q1"), Ok(Microcents(1_005)));
+    assert_eq!(ledger.committed(b"Q1"), Ok(Microcents(250)));
+    assert_eq!(ledger.reserved(b"Q1"), Ok(Microcents(40)));
+    for name in [&b"limited"[..], b"none", b""] {
+        assert_eq!(ledger.remaining(name), Err(Refusal::MissingTenant));
+        assert_eq!(ledger.initial(name), Err(Refusal::MissingTenant));
+        assert_eq!(ledger.committed(name), Err(Refusal::MissingTenant));
+        assert_eq!(ledger.reserved(name), Ok(Microcents(0)));
     }
+    for size in [25, 255, 256, 5_000] {
+        let name = vec![b'n'; size];
+        for read in [Ledger::remaining, Ledger::initial, Ledger::committed, Ledger::reserved] {
+            assert_eq!(read(&ledger, &name), Err(Refusal::NameTooLong));
+        }
+    }
+    assert_eq!(ledger.room(), room);
+    assert_eq!(reserve(&mut ledger, 1).unwrap().id, Identifier(3));
+}
+
+#[test]
+fn reads_of_the_ledger() {
+    let mut ledger = open(1_000);
+    ledger.ensure(b"Q2", Microcents(1)).unwrap();
+    ledger.limit(b"limited", Microcents(9)).unwrap();
+    let first = reserve(&mut ledger, 300).unwrap();
+    reserve(&mut ledger, 40).unwrap();
+    ledger.commit(first.id, Microcents(250)).unwrap();
+    assert_eq!((ledger.accounts(), ledger.live_reservations(), ledger.last_version()), (Ok(2), Ok(1), Ok(0)));
+    assert_eq!((ledger.committed_total(), ledger.committed_since()), (Ok(Microcents(250)), Ok(Microcents(250))));
+    let certificate = ledger.certificate().unwrap();
+    assert_eq!(ledger.last_version(), Ok(certificate.version));
+    assert_eq!((ledger.committed_total(), ledger.committed_since()), (Ok(Microcents(250)), Ok(Microcents(0))));
+    ledger.ensure(b"Q3", Microcents(M)).unwrap();
+    let all = ledger.reserve(b"Q3", Microcents(M)).unwrap();
+    ledger.commit(all.id, Microcents(M)).unwrap();
+    let room = ledger.room().to_vec();
+    assert_eq!(ledger.committed_total(), Err(Refusal::AggregateOverflow));
+    assert_eq!(ledger.committed_since(), Ok(Microcents(M - 250)));
+    assert_eq!(ledger.room(), room);
+}
+
+#[test]
+fn a_room_that_is_no_sound_ledger_is_refused() {
+    let sound = open(7).into_room();
+    let cut = sound[..sound.len() - 1].to_vec();
+    let longer = [&sound[..], &[0]].concat();
+    let mut changed = sound.clone();
+    changed[0] ^= 1;
+    for room in [cut, longer, changed, vec![], vec![0; 35_384], vec![255; 35_384], b"no ledger at all".to_vec()] {
+        assert_eq!(Ledger::from_room(room).err(), Some(Refusal::UnsoundLedger));
+    }
+    assert!(Ledger::from_room(sound).is_ok());
+}
+
+#[test]
+fn a_room_moves_with_its_bookings_and_limits() {
     let mut kept = open(7);
+    kept.limit(b"Q1", Microcents(3)).unwrap();
     reserve(&mut kept, 2).unwrap();
-    let mut again = Ledger::from_room(kept.into_room());
+    let mut again = Ledger::from_room(kept.clone().into_room()).unwrap();
+    assert_eq!(again.room(), kept.room());
+    assert_eq!(reserve(&mut again, 2), Err(Refusal::ExposureLimitExceeded { reserved: Microcents(2), limit: Microcents(3) }));
     assert_eq!(again.release(Identifier(1)), Ok(Settled { remaining: Microcents(7), amount: Microcents(2) }));
 }
 
@@ -171,4 +230,33 @@ fn frames_of_any_bytes() {
     assert_eq!(ledger.answer(&[7], &mut output), 0);
     assert_eq!(ledger.answer(&[0x0f], &mut []), 0);
     assert_eq!(reserve(&mut ledger, 9).unwrap_err().to_string(), "6 Insufficient");
+}
+
+/// A frame's answer number, which it gets as bytes and as a line.
+fn either_way(frame: &[u8]) -> u8 {
+    let mut output = [0; 200];
+    assert!(open(5).answer(frame, &mut output) > 0);
+    let number = output[0];
+    let line: String = frame.iter().map(|byte| format!("{byte:02x}")).collect::<String>() + "\n";
+    let progress = open(5).batch(line.as_bytes(), &mut output);
+    assert_eq!(progress.used, line.len());
+    assert_eq!(output[..2], *format!("{number:02x}").as_bytes());
+    number
+}
+
+#[test]
+fn the_longest_frame_and_a_longer_one_are_the_same_as_bytes_and_as_a_line() {
+    let certificate = |names: Vec<Vec<u8>>| {
+        let rows: Vec<_> = names.iter().map(|name| (&name[..], 1, 1, 0, 0)).collect();
+        [&[12, 0, 0, 0, 0, 0, 0, 0, 0], &snapshot_bytes(TAG + 5, 0, &rows)[..]].concat()
+    };
+    let names = |size: usize| (0..=255).map(|i| vec![i; size]).collect::<Vec<_>>();
+    let longest = certificate(names(24));
+    assert_eq!((longest.len(), either_way(&longest)), (14_619, 0));
+    let mut too_long = names(24);
+    too_long[0].push(0);
+    let longer = certificate(too_long);
+    assert_eq!((longer.len(), either_way(&longer)), (14_620, 23));
+    assert_eq!(either_way(&certificate(vec![vec![b'n'; 25]])), 19);
+    assert_eq!(either_way(&certificate(names(255))), 23);
 }

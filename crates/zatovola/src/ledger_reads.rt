@@ -126,16 +126,16 @@ pub extern "C" fn zatovola_committed_total(room: &[u8], value: &mut i64) -> u8
 pub extern "C" fn zatovola_accounts(room: &[u8], value: &mut u64) -> u8
     ensures { λ r. ⌜ Reads Count (λ L. readLedger L readAccounts) (now (room .entry)) (now (value .entry)) r (now (value .exit)) ⌝ }
 {
-    let counted = any_memory_accounts::accounts(room);
-    hand_count(counted, value)
+    let accounts = any_memory_accounts::accounts(room);
+    hand_count(accounts, value)
 }
 
 #[no_mangle]
 pub extern "C" fn zatovola_live_reservations(room: &[u8], value: &mut u64) -> u8
     ensures { λ r. ⌜ Reads Count (λ L. readLedger L readLive) (now (room .entry)) (now (value .entry)) r (now (value .exit)) ⌝ }
 {
-    let counted = any_memory_accounts::live(room);
-    hand_count(counted, value)
+    let live = any_memory_accounts::live(room);
+    hand_count(live, value)
 }
 
 #[no_mangle]
