@@ -13,7 +13,8 @@ use Rattle.rules.specs.SnapshotsMigrationCertificates.{replyOr, handedOut, outp
 use Rattle.rules.proofs.Values.{beside}
 use Rattle.names.specs.Names.{spelled, stored}
 use Rattle.room.proofs.SameAnswers.{amountAt, numberAt, yesAt, bytesAt, ReadBack}
-use Rattle.validation.specs.Judgement.{refusalOf, refusalIn, nameCarried, InStoredForm}
+use Rattle.validation.specs.Judgement.{refusalOf, refusalIn, InStoredForm}
+use Rattle.validation.proofs.StoredForm.{nameCarried, name-carried}
 use Rattle.validation.specs.declared.Verdict.{Verdict}
 use Rattle.validation.specs.declared.Verdict.the-variants as verdict
 use Rattle.validation.specs.declared.Judged.{Judged}
@@ -126,7 +127,7 @@ judgedIn r = record { name = stored (nameCarried (r .carried)); verdict = verdic
 
 judged-back : (j : Judged) → InStoredForm j → (carried : List Value) → nameCarried carried ≡ [] → judgedIn (replyOr (refusalIn j) (done carried)) ≡ j
 judged-back j form carried unnamed i = record {
-  name = (ap stored (same-name (refusalIn j) carried unnamed) ∙ sym (form .name)) i;
+  name = (ap stored (same-name (refusalIn j) carried unnamed) ∙ sym (name-carried j form)) i;
   verdict = verdict-back (spelled (j .name)) (j .verdict) carried i;
 }
 

@@ -2,11 +2,11 @@
 use crate::calls;
 use crate::lent;
 use crate::lent::Lent;
+use answer_bytes::LONGEST_OTHER_ANSWER;
+use any_memory_accounts::Versioned;
 use case_text::shown;
 use case_text::text;
 use case_text::text::Numbers;
-use answer_bytes::LONGEST_OTHER_ANSWER;
-use any_memory_accounts::Versioned;
 use lines::Progress;
 use snapshot_writer::Snapshotted;
 ghost use Prim.Native.Nat.{_<_, min};

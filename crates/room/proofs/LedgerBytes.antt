@@ -36,7 +36,7 @@ use Rattle.room.proofs.Filled.{filled-length}
 use Rattle.room.proofs.Decoding.{canonical}
 use Rattle.room.proofs.Numbers.{number-below}
 use Rattle.room.proofs.Seating.{kept-limit, kept-sound, Small, seat-small}
-use Rattle.room.specs.LedgerBytes.{words, padded, bytesOfSeat, bytesOfPlace, bytesOfBooking, ledgerBytes}
+use Rattle.room.specs.LedgerBytes.{words, padded, bytesOfSeat, bytesOfPlace, bytesOfBooking, placeWidth, bookingWidth, ledgerBytes}
 
 -- ── entries in use, and zeros for those that are not ──────────────────────────────────────────
 
@@ -210,7 +210,7 @@ module _ (L : Ledger) (s : Sound L) where
   bookingsBytes = joined (map bookingBytes ks)
 
   bytes-are : ledgerBytes L ≡ front ++ placesBytes ++ bookingsBytes
-  unfolding ledgerBytes flatMap
+  unfolding ledgerBytes flatMap littleBytes
   bytes-are =
       ap₂ (λ p b. front ++ p ++ b)
       (table-bytes-are placeSize placeBytes placeRecord bytesOfPlace place-bytes emptyPlace empty-place-bytes placeOf (L .T) (L .places) (all-map PlaceFits _ readable-place (map placeRecord (L .places)) places-fit) (omega (arith, s .names-fit)))
@@ -288,10 +288,10 @@ ledger-is-bytes L s =
     let head : List ℕ = words (headNumbersOf L) in
     let places : List ℕ = flatMap bytesOfPlace (L .places) in
     let bookings : List ℕ = flatMap (bytesOfBooking (L .places)) (L .bookings) in
-    all-join IsByte (head ++ padded (placeSize * L .T) places) (padded (bookingSize * L .R) bookings)
-    (all-join IsByte head (padded (placeSize * L .T) places) (words-bytes (headNumbersOf L))
-    (padded-bytes (placeSize * L .T) places (all-flat IsByte (λ p. IsName (p .name)) bytesOfPlace place-is-bytes (L .places) (s .are-names))))
-    (padded-bytes (bookingSize * L .R) bookings (all-flat IsByte (λ b. Unit {0}) (bytesOfBooking (L .places)) (λ b h. booking-is-bytes (L .places) b) (L .bookings) (all-true (L .bookings))))
+    all-join IsByte (head ++ padded (placeWidth * L .T) places) (padded (bookingWidth * L .R) bookings)
+    (all-join IsByte head (padded (placeWidth * L .T) places) (words-bytes (headNumbersOf L))
+    (padded-bytes (placeWidth * L .T) places (all-flat IsByte (λ p. IsName (p .name)) bytesOfPlace place-is-bytes (L .places) (s .are-names))))
+    (padded-bytes (bookingWidth * L .R) bookings (all-flat IsByte (λ b. Unit {0}) (bytesOfBooking (L .places)) (λ b h. booking-is-bytes (L .places) b) (L .bookings) (all-true (L .bookings))))
 
 -- ── what a room is ─────────────────────────────────────────────────────────────────────────────
 

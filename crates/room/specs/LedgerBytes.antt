@@ -4,9 +4,8 @@ use mathlib.Core.List.{List, [], _∷_, _++_, flatMap}
 use mathlib.Core.Option.{Option, none, some}
 use Prim.Native.Nat.{ℕ, _-_, _*_}
 use lib.ListN.{length, replicate}
-use Rattle.rules.specs.RoomAndSoundLedger.{longestName, Account, Place, Booking, Ledger}
+use Rattle.rules.specs.RoomAndSoundLedger.{longestName, Account, seat, Place, place, Booking, Ledger}
 use Rattle.numbers.specs.LittleEndian.{littleBytes}
-use Rattle.records.specs.Layout.{placeSize, bookingSize}
 use Rattle.room.specs.Room.{placeNumber}
 
 -- numbers of eight bytes, each with its lowest byte first
@@ -28,8 +27,15 @@ bytesOfPlace p = bytesOfSeat (p .seat .account) (p .seat .limit) ++ littleBytes 
 abbrev pub bytesOfBooking : List Place → Booking → List ℕ
 bytesOfBooking ps b = words (b .id ∷ b .amount ∷ []) ++ littleBytes 2 (placeNumber (b .name) ps)
 
+-- each has a fixed width, which is that of one with nothing in it
+abbrev pub placeWidth : ℕ
+placeWidth = length (bytesOfPlace (place [] (seat none 0)))
+
+abbrev pub bookingWidth : ℕ
+bookingWidth = length (bytesOfBooking [] (record { id = 0; name = []; amount = 0 }))
+
 unfoldable pub ledgerBytes : Ledger → List ℕ
 ledgerBytes L =
     words (L .T ∷ L .R ∷ L .nextId ∷ L .lastVersion ∷ L .baseline ∷ length (L .places) ∷ length (L .bookings) ∷ [])
-    ++ padded (placeSize * L .T) (flatMap bytesOfPlace (L .places))
-    ++ padded (bookingSize * L .R) (flatMap (bytesOfBooking (L .places)) (L .bookings))
+    ++ padded (placeWidth * L .T) (flatMap bytesOfPlace (L .places))
+    ++ padded (bookingWidth * L .R) (flatMap (bytesOfBooking (L .places)) (L .bookings))

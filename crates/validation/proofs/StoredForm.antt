@@ -1,12 +1,13 @@
 -- A judgement in its one form: of no row its name is empty, and of a row it is the row's just where the answer carries one. By cases of the verdict.
 use mathlib.Core.Path.{_≡_, refl, sym, ap, subst, _∙_}
+use mathlib.Core.Logic.{_⊎_, inl, inr, ⊎-elim}
 use mathlib.Core.List.{List, [], _∷_}
 use Prim.Native.Nat.{ℕ, _≤_}
 use native.Mathlib.Omega.{arith}
 use denote.Enum.Declared.{tagOf, declared}
 use types.Run.{OneOf, miss}
 use Rattle.rules.specs.RoomAndSoundLedger.{Name, longestName}
-use Rattle.rules.specs.AnswerNumbers.{done}
+use Rattle.rules.specs.AnswerNumbers.{Value, Amount, Identifier, Version, Fence, Count, Field, YesOrNo, TheName, SnapshotBytes, done}
 use Rattle.rules.specs.SnapshotsMigrationCertificates.{replyOr}
 use Rattle.names.specs.Names.{spelled, stored}
 use Rattle.names.specs.declared.Name.{Name as StoredName}
@@ -14,35 +15,53 @@ use Rattle.names.proofs.Storing.{spelled-stored}
 use Rattle.validation.specs.declared.Verdict.{Verdict}
 use Rattle.validation.specs.declared.Verdict.the-variants as verdict
 use Rattle.validation.specs.declared.Judged.{Judged}
-use Rattle.validation.specs.Judgement.{refusalOf, refusalIn, nameless, nameCarried, InStoredForm}
+use Rattle.validation.specs.Judgement.{refusalOf, refusalIn, judgedReply, nameless, InStoredForm}
 use Rattle.validation.proofs.Verdict.{enum}
+
+-- the name in what an answer carries, where it stands first; empty where there is none
+abbrev pub nameCarried : List Value → Name
+nameCarried [] = []
+nameCarried (Amount z ∷ vs) = []
+nameCarried (Identifier n ∷ vs) = []
+nameCarried (Version n ∷ vs) = []
+nameCarried (Fence n ∷ vs) = []
+nameCarried (Count n ∷ vs) = []
+nameCarried (Field n ∷ vs) = []
+nameCarried (YesOrNo b ∷ vs) = []
+nameCarried (TheName a ∷ vs) = a
+nameCarried (SnapshotBytes bs ∷ vs) = []
 
 -- what the answer to a verdict on a row of this name carries of it
 abbrev told : Name → Verdict → Name
 told a v = nameCarried (replyOr (refusalOf a v) (done []) .carried)
 
+-- the name, or nothing, and then it is the same refusal without it
+carried-or-not : (a : Name) (v : Verdict) → (told a v ≡ a) ⊎ ((told a v ≡ []) × (refusalOf [] v ≡ refusalOf a v))
+unfolding replyOr
+carried-or-not a verdict.Done = inr (refl, refl)
+carried-or-not a (verdict.ActiveReservations count) = inr (refl, refl)
+carried-or-not a verdict.DuplicateTenant = inl refl
+carried-or-not a (verdict.GhostReservation reserved) = inl refl
+carried-or-not a (verdict.NegativeLedgerField field value) = inl refl
+carried-or-not a (verdict.ConservationViolation delta) = inl refl
+carried-or-not a verdict.AggregateOverflow = inr (refl, refl)
+carried-or-not a verdict.AlreadyRecoveryAware = inr (refl, refl)
+carried-or-not a (verdict.InvalidAllocatorFence fence) = inr (refl, refl)
+carried-or-not a verdict.LegacySnapshotRequiresMigration = inr (refl, refl)
+carried-or-not a verdict.NameTooLong = inr (refl, refl)
+carried-or-not a verdict.NamesFull = inr (refl, refl)
+carried-or-not a verdict.OutputTooShort = inr (refl, refl)
+carried-or-not a verdict.BadFrame = inr (refl, refl)
+carried-or-not a verdict.UnsoundLedger = inr (refl, refl)
+
+pub name-carried : (j : Judged) → InStoredForm j → j .name ≡ stored (nameCarried (judgedReply j .carried))
+name-carried j form =
+    ⊎-elim (λ e. form .name ∙ ap stored (sym e)) (λ (e, same). form .uncarried same ∙ ap stored (sym e)) (carried-or-not (spelled (j .name)) (j .verdict))
+
 -- ── of no row ──────────────────────────────────────────────────────────────────────────────────
 
-told-none : (v : Verdict) → told [] v ≡ []
-unfolding replyOr
-told-none verdict.Done = refl
-told-none (verdict.ActiveReservations count) = refl
-told-none verdict.DuplicateTenant = refl
-told-none (verdict.GhostReservation reserved) = refl
-told-none (verdict.NegativeLedgerField field value) = refl
-told-none (verdict.ConservationViolation delta) = refl
-told-none verdict.AggregateOverflow = refl
-told-none verdict.AlreadyRecoveryAware = refl
-told-none (verdict.InvalidAllocatorFence fence) = refl
-told-none verdict.LegacySnapshotRequiresMigration = refl
-told-none verdict.NameTooLong = refl
-told-none verdict.NamesFull = refl
-told-none verdict.OutputTooShort = refl
-told-none verdict.BadFrame = refl
-told-none verdict.UnsoundLedger = refl
-
 pub nameless-form : {j : Judged} {v : Verdict} → j ≡ nameless v → InStoredForm j
-nameless-form {v = v} e = subst InStoredForm (sym e) (record { name = ap stored (sym (told-none v)); short = omega arith })
+nameless-form e = subst InStoredForm (sym e) (record { name = ap stored (sym (spelled-stored [])); short = omega arith; uncarried = λ _. refl })
 
 -- ── of a row ───────────────────────────────────────────────────────────────────────────────────
 
@@ -70,8 +89,14 @@ told-named a verdict.UnsoundLedger h = absurd (miss namedTags 14 tt h)
 
 pub named-form : {name : StoredName} {v : Verdict} (a : Name) → name ≡ stored a → name .length ≤ longestName → OneOf namedTags (tagOf (declared enum) v)
     → InStoredForm (record { name = name; verdict = v })
-named-form {v = v} a is short named =
-    record { name = is ∙ ap stored (sym (ap (λ b. told b v) (ap spelled is ∙ spelled-stored a) ∙ told-named a v named)); short = short }
+named-form {name = name} {v = v} a is short named =
+    let spells : spelled name ≡ a = ap spelled is ∙ spelled-stored a in
+    record {
+      name = is ∙ ap stored (sym spells);
+      short = short;
+      uncarried = λ same.
+          is ∙ ap stored (sym spells ∙ sym (told-named (spelled name) v named) ∙ sym (ap (λ o. nameCarried (replyOr o (done []) .carried)) same) ∙ told-named [] v named);
+    }
 
 abbrev otherTags : List ℕ
 otherTags = 0 ∷ 1 ∷ 6 ∷ 7 ∷ 8 ∷ 9 ∷ 10 ∷ 11 ∷ 12 ∷ 13 ∷ 14 ∷ []

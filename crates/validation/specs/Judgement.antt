@@ -5,7 +5,7 @@ use mathlib.Core.Option.{Option, none, some}
 use Prim.Native.Nat.{_≤_}
 use lib.IntN.{ℤ}
 use Rattle.rules.specs.RoomAndSoundLedger.{longestName, Name}
-use Rattle.rules.specs.AnswerNumbers.{Value, Amount, Identifier, Version, Fence, Count, Field, YesOrNo, TheName, SnapshotBytes, Reply, Refusal, ActiveReservations, DuplicateTenant, GhostReservation, NegativeLedgerField, ConservationViolation, AggregateOverflow, AlreadyRecoveryAware, InvalidAllocatorFence, LegacySnapshotRequiresMigration, NameTooLong, NamesFull, OutputTooShort, BadFrame, UnsoundLedger, done}
+use Rattle.rules.specs.AnswerNumbers.{Reply, Refusal, ActiveReservations, DuplicateTenant, GhostReservation, NegativeLedgerField, ConservationViolation, AggregateOverflow, AlreadyRecoveryAware, InvalidAllocatorFence, LegacySnapshotRequiresMigration, NameTooLong, NamesFull, OutputTooShort, BadFrame, UnsoundLedger, done}
 use Rattle.rules.specs.SnapshotsMigrationCertificates.{Row, replyOr}
 use Rattle.names.specs.Names.{spelled, stored}
 use Rattle.validation.specs.declared.Verdict.{Verdict}
@@ -41,23 +41,11 @@ nameless v = record { name = stored []; verdict = v }
 abbrev pub judgedReply : Judged → Reply
 judgedReply j = replyOr (refusalIn j) (done [])
 
--- the name in what an answer carries, where it stands first; empty where there is none
-abbrev pub nameCarried : List Value → Name
-nameCarried [] = []
-nameCarried (Amount z ∷ vs) = []
-nameCarried (Identifier n ∷ vs) = []
-nameCarried (Version n ∷ vs) = []
-nameCarried (Fence n ∷ vs) = []
-nameCarried (Count n ∷ vs) = []
-nameCarried (Field n ∷ vs) = []
-nameCarried (YesOrNo b ∷ vs) = []
-nameCarried (TheName a ∷ vs) = a
-nameCarried (SnapshotBytes bs ∷ vs) = []
-
--- a judgement has one form: its name is the one that the answer carries, which a place can hold, with zeros after it
+-- a judgement has one form: a place could hold its name, zeros stand after it, and it is empty where the refusal is the same without it
 pub record InStoredForm (j : Judged) : Type 0 where
-  pub name : j .name ≡ stored (nameCarried (judgedReply j .carried))
+  pub name : j .name ≡ stored (spelled (j .name))
   pub short : j .name .length ≤ longestName
+  pub uncarried : refusalOf [] (j .verdict) ≡ refusalIn j → j .name ≡ stored []
 
 abbrev pub rowWith : Name → (initial remaining reserved committed : ℤ) → Row
 rowWith a initial remaining reserved committed = record { name = a; initial = initial; remaining = remaining; reserved = reserved; committed = committed }
