@@ -1,26 +1,26 @@
 -- What the contracts of a line and of a batch leave open: nothing. One ledger has one room (`canonical`), and the rules fix the output. Of a batch the lines
--- are fixed too: by induction, two fronts of one input that both stop for cause have the same first line, and so on (`same-lines`).
+-- are fixed too: by induction, two fronts of one input that both stop for cause have the same first line, and so on (`same-lines`). Whether memory is a room
+-- need not be decided: whether results and bytes are the same can be told (`by-lent`).
 use mathlib.Core.Path.{_≡_, refl, sym, subst, ap, _∙_}
 use mathlib.Core.Logic.{_⊎_, inl, inr}
-use mathlib.Core.Bool.{Bool}
 use mathlib.Core.List.{List, [], _∷_, _++_, append-assoc, head-eq-of-cons-eq, tail-eq-of-cons-eq}
 use mathlib.Core.Option.{Option}
-use Prim.Native.Nat.{ℕ, _+_, _-_, _≤_}
+use Prim.Native.Nat.{ℕ, zero, suc, _+_, _-_, _≤_}
 use native.Mathlib.Omega.{arith}
 use lib.ListN.{length, drop, length-append, take-append-drop}
 use Rattle.rules.specs.Lists.{All}
 use Rattle.rules.specs.RoomAndSoundLedger.{IsByte}
 use Rattle.rules.specs.AnswerNumbers.{Lent, sound, unsound}
 use Rattle.rules.specs.Frames.{Operation, lineFeed, answerLine, answerOr23, answerToLine, operationOfLine, answersToLines, lentAfter}
-use Rattle.room.specs.Room.{SoundRoom}
+use Rattle.rules.proofs.Tests.{equal-or-not}
+use Rattle.rules.proofs.Values.{Told, both-told, as-told, bytes-told}
 use Rattle.room.proofs.Decoding.{canonical}
-use Rattle.soundness.specs.Facts.{Decides}
-use Rattle.frames.specs.Answering.{IsLent}
+use Rattle.room.proofs.SameAnswers.{by-room}
+use Rattle.frames.specs.Answering.{IsLent, OfLent}
 use Rattle.lines.specs.declared.LineAnswer.{LineAnswer}
 use Rattle.lines.specs.declared.LineAnswer.the-variants as answered
 use Rattle.lines.specs.declared.Progress.{Progress}
 use Rattle.lines.specs.Batching.{lineRoom, IsLine, withFeeds, LineAnswered, PromisesLine, HadRoom, NextTooLong, Batches, PromisesBatch}
-use Rattle.lines.proofs.AnswerLines.{found, some-lent}
 use Rattle.lines.proofs.StaysKnown.{unsound-before-answer, unsound-before-lines}
 
 -- two results and what they leave of the lent memory and of the output
@@ -170,23 +170,50 @@ module _ (l : Lent) (input before after others output output-after output-others
 
 -- ── the whole contracts ────────────────────────────────────────────────────────────────────────
 
--- of `lines::answer` and `lines::batch`: what is lent is the room of a sound ledger or of none, as `soundness::is_sound` answers of any memory
-module _ (before after others output output-after output-others : List ℕ) (bytes : All IsByte after) (other-bytes : All IsByte others)
-    (known : Bool) (decides : Decides (SoundRoom before) known) where
+-- what can be told, and holds whatever the memory is lent as, holds
+pub by-lent : (memory : List ℕ) {P : Type 0} → Told P → OfLent memory (λ l. P) → P
+by-lent memory told holds = by-room memory told (λ L room. holds (sound L) room) (λ none. holds unsound none)
+
+pub same-told : {R : Type 0} {r s : R} {after others output-after output-others : List ℕ} → Told (r ≡ s) → Told (Same R r s after others output-after output-others)
+same-told {after = after} {others = others} {output-after = output-after} {output-others = output-others} told =
+    as-told (λ same. record { answer = same .0; memory = same .1 .0; output = same .1 .1 }) (λ same. (same .answer, (same .memory, same .output)))
+    (both-told told (both-told (bytes-told after others) (bytes-told output-after output-others)))
+
+-- an answer to a line by its size, 0 where there is none
+abbrev sizeOf : LineAnswer → ℕ
+sizeOf (answered.Written size) = suc size
+sizeOf answered.OutputTooShort = 0
+
+abbrev answerOf : ℕ → LineAnswer
+answerOf zero = answered.OutputTooShort
+answerOf (suc size) = answered.Written size
+
+answer-back : (r : LineAnswer) → answerOf (sizeOf r) ≡ r
+answer-back (answered.Written size) = refl
+answer-back answered.OutputTooShort = refl
+
+line-told : (r s : LineAnswer) → Told (r ≡ s)
+line-told r s = as-told (λ e. sym (answer-back r) ∙ ap answerOf e ∙ answer-back s) (ap sizeOf) (equal-or-not (sizeOf r) (sizeOf s))
+
+progress-told : (b c : Progress) → Told (b ≡ c)
+progress-told b c =
+    as-told (λ same i. record { used = same .0 i; written = same .1 i }) (λ e. (λ i. e i .used, λ i. e i .written))
+    (both-told (equal-or-not (b .used) (c .used)) (equal-or-not (b .written) (c .written)))
+
+-- of `lines::answer` and `lines::batch`, for any memory
+module _ (before after others output output-after output-others : List ℕ) (bytes : All IsByte after) (other-bytes : All IsByte others) where
   pub one-answer : (o : Option Operation) (r s : LineAnswer)
       → PromisesLine o before after output output-after r
       → PromisesLine o before others output output-others s
       → Same LineAnswer r s after others output-after output-others
   one-answer o r s one two =
-      let some = some-lent known (found known decides) in
-      same-line o (some .lent) before after others output output-after output-others bytes other-bytes r s
-      (one (some .lent) (some .is-lent)) (two (some .lent) (some .is-lent))
+      by-lent before (same-told (line-told r s))
+      (λ l is-lent. same-line o l before after others output output-after output-others bytes other-bytes r s (one l is-lent) (two l is-lent))
 
   pub one-batch : (input : List ℕ) (b c : Progress)
       → PromisesBatch input before after output output-after b
       → PromisesBatch input before others output output-others c
       → Same Progress b c after others output-after output-others
   one-batch input b c one two =
-      let some = some-lent known (found known decides) in
-      same-batch (some .lent) input before after others output output-after output-others bytes other-bytes b c
-      (one (some .lent) (some .is-lent)) (two (some .lent) (some .is-lent))
+      by-lent before (same-told (progress-told b c))
+      (λ l is-lent. same-batch l input before after others output output-after output-others bytes other-bytes b c (one l is-lent) (two l is-lent))
