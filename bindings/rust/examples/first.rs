@@ -28,6 +28,8 @@ fn main() -> Result<(), Refusal> {
         Err(refusal) => println!("refused: {refusal}"),
     }
 
+    println!("asked without a snapshot: {:.2} of {:.2} left", euros(ledger.remaining(b"TP")?), euros(ledger.initial(b"TP")?));
+
     let snapshot = ledger.snapshot()?;
     for row in snapshot.rows() {
         println!("{}: {:.2} of {:.2} left", String::from_utf8_lossy(&row.name.0), euros(row.remaining), euros(row.initial));
