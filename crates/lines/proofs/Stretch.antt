@@ -12,7 +12,7 @@ use lib.Seq.{take-all, take-add, drop-at, drop-drop, length-take-le}
 use Rattle.rules.specs.Lists.{All}
 use Rattle.rules.specs.AnswerNumbers.{Lent, unsound}
 use Rattle.rules.specs.Frames.{Operation, lentAfter, lineFeed, answerLine, answerOr23, answerToLine, operationOfLine, answersToLines}
-use Rattle.rules.proofs.EveryLine.{answers-append}
+use Rattle.rules.proofs.EveryLine.{answers-append, lent-append}
 use Rattle.rules.proofs.Lists.{all-more}
 use Rattle.records.specs.Rows.{row, put}
 use Rattle.records.proofs.Rows.{two-halves}
@@ -40,15 +40,16 @@ pub begun : (l : Lent) (input before output : List ℕ) → IsLent before l → 
 unfolding withFeeds answersToLines lentAfter
 begun l input before output is = record { lines = []; are-lines = tt; input-used = refl; are-used = refl; are-written = refl; output = refl; lent = is; untouched = λ _. refl; had-room = tt }
 
-feeds-end : (lines : List (List ℕ)) (line : List ℕ) → withFeeds (lines ++ (line ∷ [])) ≡ withFeeds lines ++ (line ++ (lineFeed ∷ []))
+pub feeds-append : (lines later : List (List ℕ)) → withFeeds (lines ++ later) ≡ withFeeds lines ++ withFeeds later
 unfolding withFeeds
-feeds-end [] line = refl
-feeds-end (other ∷ lines) line = rw (feeds-end lines line, append-assoc)
+feeds-append [] later = refl
+feeds-append (line ∷ lines) later = rw (feeds-append lines later, append-assoc)
+
+pub feeds-end : (lines : List (List ℕ)) (line : List ℕ) → withFeeds (lines ++ (line ∷ [])) ≡ withFeeds lines ++ (line ++ (lineFeed ∷ []))
+feeds-end lines line = feeds-append lines (line ∷ []) ∙ ap (λ more. withFeeds lines ++ more) (unfold withFeeds in refl)
 
 lent-end : (l : Lent) (lines : List (List ℕ)) (line : List ℕ) → lentAfter l (lines ++ (line ∷ [])) ≡ answerToLine (lentAfter l lines) line .lent
-unfolding lentAfter
-lent-end l [] line = refl
-lent-end l (other ∷ lines) line = lent-end (answerToLine l other .lent) lines line
+lent-end l lines line = lent-append l lines (line ∷ []) ∙ (unfold lentAfter in refl)
 
 answers-end : (l : Lent) (lines : List (List ℕ)) (line : List ℕ)
     → answersToLines l (lines ++ (line ∷ [])) ≡ answersToLines l lines ++ (answerLine (answerToLine (lentAfter l lines) line .reply) ++ (lineFeed ∷ []))

@@ -2,6 +2,7 @@
 -- line; and a frame's answer has room for any snapshot of a sound ledger, so that no frame meets 22. A line holds no operation, or one that fits
 -- (FrameBytes), and those are covered by SnapshotSoundness; the rest is induction over lines, and digits that are no line feed.
 use mathlib.Core.Path.{_≡_, refl, sym, _∙_, ap}
+use mathlib.Core.Logic.{_≢_}
 use mathlib.Core.Bool.{false}
 use mathlib.Core.List.{List, [], _∷_, _++_, append-assoc}
 use Prim.Native.Nat.{ℕ, _/_, _%_, _<_}
@@ -39,6 +40,11 @@ unfolding answersToLines lentAfter
 answers-append l [] later = refl
 answers-append l (line ∷ before) later = rw (answers-append (answerToLine l line .lent) before later) (sym (append-assoc (answerLine (answerToLine l line .reply)) (lineFeed ∷ answersToLines (answerToLine l line .lent) before) (answersToLines (lentAfter (answerToLine l line .lent) before) later)))
 
+pub lent-append : (l : Lent) (before later : List (List ℕ)) → lentAfter l (before ++ later) ≡ lentAfter (lentAfter l before) later
+unfolding lentAfter
+lent-append l [] later = refl
+lent-append l (line ∷ before) later = lent-append (answerToLine l line .lent) before later
+
 pub own-snapshot-has-room : (L : Ledger) → Sound L → tooShortFor longestSnapshot (snapshotOf L) ≡ false
 own-snapshot-has-room L s = never-too-short (snapshotOf L) (omega (arith, rows-length (L .places), s .names-fit, s .names-in-range .1)) (own-names-short (L .places) (s .are-names))
 
@@ -50,10 +56,10 @@ too-long-line l line h = bad-frame l line (rw (lt-ltb longestLine (length line) 
 -- ── one answer line each ───────────────────────────────────────────────────────────────────────
 
 abbrev NotLineFeed : ℕ → Type 0
-NotLineFeed c = lineFeed < c
+NotLineFeed c = c ≢ lineFeed
 
 character-after-feed : (d : ℕ) → NotLineFeed (characterOf d)
-character-after-feed d = by-test NotLineFeed (ltb d 10) (λ _. omega arith) (λ _. omega arith)
+character-after-feed d = by-test NotLineFeed (ltb d 10) (λ _ e. omega arith) (λ _ e. omega arith)
 
 line-has-no-feed : (bs : List ℕ) → All NotLineFeed (lineOfBytes bs)
 unfolding lineOfBytes
@@ -61,10 +67,10 @@ line-has-no-feed [] = tt
 line-has-no-feed (b ∷ bs) = (character-after-feed (b / 16), (character-after-feed (b % 16), line-has-no-feed bs))
 
 -- a line with its line feed in front of other text is the first of the lines
-first-piece : (line rest : List ℕ) → All NotLineFeed line → pieces (line ++ lineFeed ∷ rest) ≡ line ∷ pieces rest
+pub first-piece : (line rest : List ℕ) → All NotLineFeed line → pieces (line ++ lineFeed ∷ rest) ≡ line ∷ pieces rest
 unfolding pieces
 first-piece [] rest h = refl
-first-piece (c ∷ line) rest (h, k) = rw (ne-eqb c lineFeed (omega arith), first-piece line rest k)
+first-piece (c ∷ line) rest (h, k) = rw (ne-eqb c lineFeed h, first-piece line rest k)
 
 -- there is always a piece, so a line before it counts
 record SomePiece (lines : List (List ℕ)) : Type 0 where
@@ -79,7 +85,7 @@ some-piece (c ∷ text) =
     let p = some-piece text in
     by-test SomePiece (eqb c lineFeed) (λ _. record { head = []; others = pieces text; are = refl }) (λ _. record { head = c ∷ p .head; others = p .others; are = rw (p .are) })
 
-counted-more : (line text : List ℕ) → counted (line ∷ pieces text) ≡ line ∷ counted (pieces text)
+pub counted-more : (line text : List ℕ) → counted (line ∷ pieces text) ≡ line ∷ counted (pieces text)
 unfolding counted
 counted-more line text = let p = some-piece text in rw (p .are) (go line (p .head) (p .others))
   where

@@ -2,7 +2,6 @@
 -- the places hold what the reply carries, else what they held.
 use mathlib.Core.Path.{_≡_, refl, sym, ap, _∙_}
 use mathlib.Core.Logic.{⊎-elim}
-use mathlib.Core.Bool.{Bool}
 use mathlib.Core.List.{List, [], _∷_}
 use Prim.Native.Nat.{ℕ}
 use lib.Dec.{eqb}
@@ -11,8 +10,6 @@ use borrow.Author.Tests.{eqb-true}
 use Rattle.rules.specs.RoomAndSoundLedger.{Ledger}
 use Rattle.rules.specs.AnswerNumbers.{Value, Amount, Count, Version, Reply, done}
 use Rattle.rules.proofs.Tests.{by-test, equal-or-not}
-use Rattle.room.specs.Room.{SoundRoom}
-use Rattle.soundness.specs.Facts.{Decides}
 use Rattle.any_memory_accounts.proofs.SameReading.{same-reading}
 use Rattle.zatovola.specs.Reads.{told, Reads}
 
@@ -30,9 +27,9 @@ pub versions-apart : (m n : ℕ) → Version m ≡ Version n → m ≡ n
 versions-apart m n e = cc
 
 module _ {A : Type 0} (carried : A → Value) (apart : (x y : A) → carried x ≡ carried y → x ≡ y) (f : Ledger → Reply) (memory : List ℕ) (before : A)
-    (m n : ℕ) (v w : A) (one : Reads carried f memory before m v) (two : Reads carried f memory before n w) (b : Bool) (decides : Decides (SoundRoom memory) b) where
+    (m n : ℕ) (v w : A) (one : Reads carried f memory before m v) (two : Reads carried f memory before n w) where
   same-reply : told carried m v ≡ told carried n w
-  same-reply = same-reading memory f (told carried m v) (told carried n w) (one .tells) (two .tells) b decides
+  same-reply = same-reading (λ r. r) (record { back = λ r. r; is = λ _. refl }) f memory (told carried m v) (told carried n w) (one .tells) (two .tells)
 
   same-number : m ≡ n
   same-number = sym (told-number carried m v) ∙ ap (λ r. r .number) same-reply ∙ told-number carried n w

@@ -1,0 +1,5 @@
+pub mod Answering
+pub mod AnyTurns
+pub mod Parts
+pub mod Reading
+pub mod WholeInput

@@ -1,0 +1,92 @@
+-- `turns::settle`: `make_room` says what is held on; where the line that filled the input is handed on, its answer is the one line more (`further` of
+-- Answering.antt), and else there is none.
+use mathlib.Core.Path.{_≡_, refl, sym, subst, ap, _∙_}
+use mathlib.Core.Bool.{Bool, true, false}
+use mathlib.Core.List.{List, [], _∷_}
+use Prim.Native.Nat.{ℕ, _-_}
+use native.Mathlib.Omega.{arith}
+use borrow.Author.Needs.{needs}
+use lib.ListN.{length, take}
+use Rattle.rules.specs.AnswerNumbers.{unsound}
+use Rattle.rules.specs.Frames.{answersToLines, lentAfter}
+use Rattle.records.specs.Rows.{row}
+use Rattle.frames.specs.Answering.{IsLent}
+use Rattle.turns.specs.Turns.{heldIn, passedOver}
+use Rattle.turns.proofs.Answering.{line-written, line-lent, further}
+use Rattle.turns.proofs.settle.Statement.{statement}
+use Rattle.turns.proofs.settle.Tie as tie
+
+returns : tie.Need-returns
+returns c =
+    let made = c .before .before .before .before .before .before .before .before .before .before .before .make-room in
+    let call = c .before .before .before .before .answer-line in
+    let taken = c .before .before .before .before .before .before .before .before .if1 .taken in
+    let h = made .result in
+    let input = made .last .0 in
+    let after = call .last .0 in
+    let text = take (call .result) (call .last .1 .1 .0) in (
+      λ _. record {
+        held = (made .ensures .0 .0, omega (arith, made .ensures .0 .1));
+        written = omega (arith, call .ensures .0, call .kept);
+        room-left = λ _. made .ensures .0 .1;
+        further = λ e. absurd (let z : _≡_ {A = ℕ} 0 1 = cc in omega arith);
+      },
+      (
+        λ is-line l read written a.
+            let lent = lentAfter l (a .handed-on) in
+            let answer = call .ensures .1 lent (a .lent) in
+            let (reads, held-line) = made .ensures .1 read (a .handed-on) is-line (a .reads) in
+            let lines : passedOver (h .passing) input ≡ input ∷ [] = ap (λ p. passedOver p input) taken in
+            record {
+              answers =
+                  further a (passedOver (h .passing) input) (h .passing) (heldIn input h) text after reads
+                  (line-written input answer ∙ ap (answersToLines lent) (sym lines))
+                  (subst (λ given. IsLent after (lentAfter lent given)) (sym lines) (line-lent input answer));
+              none-left = λ _. held-line;
+            },
+        λ is. call .ensures .1 unsound is .untouched refl,
+      ),
+    )
+
+returns-2 : tie.Need-returns-2
+unfolding answersToLines lentAfter
+returns-2 c =
+    let made = c .before .before .before .make-room in
+    let s = c .before .before .before .before .before .before .before .before in
+    let h = made .result in
+    let input = made .last .0 in
+    let room = s .args .room .now in (
+      λ _. record {
+        held = (made .ensures .0 .0, omega (arith, made .ensures .0 .1));
+        written = omega arith;
+        room-left = λ _. made .ensures .0 .1;
+        further = λ e. absurd (let z : _≡_ {A = ℕ} 0 1 = cc in omega arith);
+      },
+      (
+        λ is-line l read written a.
+            let lent = lentAfter l (a .handed-on) in
+            let (reads, held-line) = made .ensures .1 read (a .handed-on) is-line (a .reads) in
+            let lines : passedOver (h .passing) input ≡ [] = ap (λ p. passedOver p input) (c .if1 .left) in
+            record {
+              answers =
+                  further a (passedOver (h .passing) input) (h .passing) (heldIn input h) [] room reads
+                  (ap (answersToLines lent) (sym lines))
+                  (subst (λ given. IsLent room (lentAfter lent given)) (sym lines) (a .lent));
+              none-left = λ _. held-line;
+            },
+        λ is. refl,
+      ),
+    )
+
+pub settle-spec : {M : Type 1} → statement M
+settle-spec =
+    tie.close
+    (tie.spec
+    (λ c κs. search needs)
+    (λ c κs. search needs)
+    (λ c. search needs)
+    (λ c. search needs)
+    (λ c. search needs)
+    returns
+    (λ c. search needs)
+    returns-2)
