@@ -1,8 +1,6 @@
--- How much of what was read has been answered is within it.
-use Prim.Native.Nat.{ℕ, _≤_}
-use Rattle.house.specs.declared.desk.Answered.{Answered}
-use Rattle.house.specs.declared.desk.Answered.the-variants as answered
+-- What is held leaves room to read into.
+use Prim.Native.Nat.{ℕ, _≤_, _<_}
+use Rattle.turns.specs.declared.Held.{Held}
 
-abbrev pub UsedWithin : ℕ → Answered → Type 0
-UsedWithin size (answered.Used used) = used ≤ size
-UsedWithin size answered.WriteFailed = Unit {0}
+abbrev pub ReadyToRead : (capacity : ℕ) → Held → Type 0
+ReadyToRead capacity h = (h .from ≤ h .end) × (h .end < capacity)

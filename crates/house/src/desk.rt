@@ -1,31 +1,21 @@
-// Reading, answering and writing, turn by turn.
-use lines::LINE_FEED;
-use lines::LineEnd;
-ghost use lib.ListN.{length};
-ghost use mathlib.Core.Path.{_≡_};
-ghost use Rattle.house.specs.Desk.{UsedWithin};
+// Reading and writing, turn by turn. Which lines are whole, what is held and what is answered is the crate `turns`'.
+use turns::Held;
+use turns::Turn;
 ghost use Prim.Native.Nat.{_≤_, _<_};
+ghost use lib.ListN.{length};
+ghost use Rattle.turns.specs.Turns.{Within, longestAnswerLine};
+ghost use Rattle.house.specs.Desk.{ReadyToRead};
 
-// So many bytes at the front of the input are held: the beginning of a line. A line longer than the input has been answered, and is passed over to its end.
 struct Desk {
-    held: usize,
-    passing: bool,
+    held: Held,
     going: bool,
 }
 
-enum Answered {
-    Used(usize),
-    WriteFailed,
-}
-
 fn stopped() -> Desk
-    ensures { λ r. ⌜ r .held ≡ 0 ⌝ }
+    ensures { λ r. ⌜ ReadyToRead 1 (r .held) ⌝ }
 {
-    Desk {
-        held: 0,
-        passing: false,
-        going: false,
-    }
+    let held = turns::start();
+    Desk { held, going: false }
 }
 
 // Whether the answers were written: a failed write ends the program, and says so.
@@ -37,116 +27,68 @@ fn written(answers: &[u8]) -> bool {
     false
 }
 
-// Every whole line at the front of the input is answered, and the answers are written as they come.
-fn answer_lines(room: &mut [u8], input: &[u8], output: &mut [u8]) -> Answered
-    ensures { λ r. ⌜ UsedWithin (length (now (input .entry))) r ⌝ }
+// All that was read is answered, and the answers are written as they come.
+fn answer(room: &mut [u8], input: &mut [u8], output: &mut [u8], held: Held) -> Desk
+    requires { ⌜ Within (now input) held × (0 < length (now input)) × (longestAnswerLine ≤ length (now output)) ⌝ }
+    ensures { λ r. ⌜ ReadyToRead (length (now (input .entry))) (r .held) ⌝ }
 {
-    let mut used = 0;
-    while used < input.len() {
-        let progress = lines::batch(room, &input[used..], output);
-        let further = progress.used;
-        if further == 0 {
-            return Answered::Used(used);
-        }
-        let end = progress.written;
-        if !written(&output[..end]) {
-            return Answered::WriteFailed;
-        }
-        used += further;
-    }
-    Answered::Used(used)
-}
-
-// What is not answered yet comes to the front.
-fn keep(input: &mut [u8], from: usize, end: usize) -> usize
-    requires { ⌜ (from ≤ end) × (end ≤ length (now input)) ⌝ }
-    ensures { λ r. ⌜ r ≤ end ⌝ }
-{
-    let mut at = from;
-    let mut to = 0;
-    while at < end {
-        input[to] = input[at];
-        to += 1;
-        at += 1;
-    }
-    to
-}
-
-// The bytes from here on were read and not yet answered. Where they fill the input, no line feed is among them: so long a line is no frame, and its 23 is
-// written at once.
-fn settle(room: &mut [u8], input: &mut [u8], from: usize, end: usize, output: &mut [u8]) -> Desk
-    requires { ⌜ (from ≤ end) × (end ≤ length (now input)) × (0 < length (now input)) ⌝ }
-    ensures { λ r. ⌜ r .held < length (now (input .entry)) ⌝ }
-{
-    let Answered::Used(used) = answer_lines(room, &input[from..end], output) else {
-        return stopped();
+    let mut turn = Turn {
+        held,
+        written: 0,
+        done: false,
     };
-    let held = keep(input, from + used, end);
-    if held < input.len() {
-        return Desk {
-            held,
-            passing: false,
-            going: true,
-        };
+    while !turn.done {
+        let held = turn.held;
+        turn = turns::answer(room, input, held, output);
+        let size = turn.written;
+        if !written(&output[..size]) {
+            return stopped();
+        }
     }
-    let going = written(b"17\n");
-    Desk {
-        held: 0,
-        passing: true,
-        going,
-    }
+    let held = turn.held;
+    Desk { held, going: true }
 }
 
-// What the input ends with, when it ends in no line feed, is a line too; nothing is none.
-fn close(room: &mut [u8], input: &mut [u8], held: usize, output: &mut [u8])
-    requires { ⌜ held < length (now input) ⌝ }
+// The end of the input: what it ends with, when it ends in no line feed.
+fn close(room: &mut [u8], input: &[u8], output: &mut [u8], held: Held) -> Desk
+    requires { ⌜ Within (now input) held × (longestAnswerLine ≤ length (now output)) ⌝ }
+    ensures { λ r. ⌜ ReadyToRead 1 (r .held) ⌝ }
 {
-    if held == 0 {
-        return;
-    }
-    input[held] = LINE_FEED;
-    let end = held + 1;
-    answer_lines(room, &input[..end], output);
+    let size = turns::last(room, input, held, output);
+    written(&output[..size]);
+    stopped()
 }
 
-// One read, and the answers to every whole line that it brought.
-fn turn(room: &mut [u8], input: &mut [u8], output: &mut [u8], desk: Desk) -> Desk
-    requires { ⌜ desk .held < length (now input) ⌝ }
-    ensures { λ r. ⌜ r .held < length (now (input .entry)) ⌝ }
+// One read, and the answers to every whole line that it brought. A read that fails ends no input: what is held may be the beginning of a line, and is not
+// answered.
+fn turn(room: &mut [u8], input: &mut [u8], output: &mut [u8], held: Held) -> Desk
+    requires { ⌜ ReadyToRead (length (now input)) held × (longestAnswerLine ≤ length (now output)) ⌝ }
+    ensures { λ r. ⌜ ReadyToRead (length (now (input .entry))) (r .held) ⌝ }
 {
-    let held = desk.held;
-    let got = libc::read(0, &mut input[held..]);
-    let brought = io::count(got, &input[held..]);
-    if brought == 0 {
-        close(room, input, held, output);
+    let end = held.end;
+    let got = libc::read(0, &mut input[end..]);
+    if got < 0 {
+        io::write_all(2, b"house: the input cannot be read\n");
         return stopped();
     }
-    let end = held + brought;
-    if !desk.passing {
-        return settle(room, input, 0, end, output);
+    let count = io::count(got, &input[end..]);
+    if count == 0 {
+        return close(room, input, output, held);
     }
-    let LineEnd::At(feed) = lines::line_end(&input[..end], 0) else {
-        return Desk {
-            held: 0,
-            passing: true,
-            going: true,
-        };
-    };
-    settle(room, input, feed + 1, end, output)
+    let held = turns::brought(input, held, count);
+    answer(room, input, output, held)
 }
 
 // A proved loop has to end, and nothing says that the input does: the turns are counted down from a number that no run uses up.
 pub fn open(room: &mut [u8], input: &mut [u8], output: &mut [u8])
-    requires { ⌜ 0 < length (now input) ⌝ }
+    requires { ⌜ (0 < length (now input)) × (longestAnswerLine ≤ length (now output)) ⌝ }
 {
-    let mut desk = Desk {
-        held: 0,
-        passing: false,
-        going: true,
-    };
+    let held = turns::start();
+    let mut desk = Desk { held, going: true };
     let mut turns: u64 = 18446744073709551615;
     while 0 < turns && desk.going {
-        desk = turn(room, input, output, desk);
+        let held = desk.held;
+        desk = turn(room, input, output, held);
         turns -= 1;
     }
 }
