@@ -1,8 +1,11 @@
 // Ensure, top-up and limit on a ledger already known to be sound, which they leave sound: a batch checks once and runs many.
 use moves::Ensuring;
 use moves::Limiting;
+use moves::Tenant;
 use moves::ToppingUp;
 use numbers::Microcents;
+use numbers::Positive;
+use numbers::Sign;
 use seats::Written;
 ghost use Rattle.rules.specs.AccountRules.{ensure, topUp, limit, operate};
 ghost use Rattle.room.specs.Room.{SoundRoom, Performs};
@@ -43,18 +46,16 @@ pub fn ensure(room: &mut [u8], part: &[u8], amount: Microcents) -> Ensured
     }
     let found = lookup::find(room, part);
     let seat = seats::seat_at(room, found);
-    let decided = moves::ensure(seat, amount);
-    match decided {
-        Ensuring::Negative => Ensured::NegativeAmount(amount),
-        Ensuring::Present => Ensured::Done,
-        Ensuring::Opened(opened) => {
-            let written = seats::write_seat(room, part, found, opened);
-            match written {
-                Written::Done => Ensured::Done,
-                Written::NamesFull => Ensured::NamesFull,
-            }
-        }
-    }
+    let Sign::Natural(opening) = numbers::sign_of(amount) else {
+        return Ensured::NegativeAmount(amount);
+    };
+    let Ensuring::Opened(opened) = moves::ensure(seat, opening) else {
+        return Ensured::Done;
+    };
+    let Written::Done = seats::write_seat(room, part, found, opened) else {
+        return Ensured::NamesFull;
+    };
+    Ensured::Done
 }
 
 pub fn top_up(room: &mut [u8], part: &[u8], amount: Microcents) -> ToppedUp
@@ -66,20 +67,21 @@ pub fn top_up(room: &mut [u8], part: &[u8], amount: Microcents) -> ToppedUp
     }
     let found = lookup::find(room, part);
     let seat = seats::seat_at(room, found);
-    let decided = moves::top_up(seat, amount);
-    match decided {
-        ToppingUp::Invalid => ToppedUp::InvalidAmount,
-        ToppingUp::Missing => ToppedUp::MissingTenant,
-        ToppingUp::Overflow => ToppedUp::Overflow,
-        ToppingUp::Grown(grown) => {
-            seats::write_seat(room, part, found, grown);
-            ToppedUp::Done(
-                amount,
-                numbers::amount(grown.initial),
-                numbers::amount(grown.remaining),
-            )
-        }
-    }
+    let Positive::Amount(added) = numbers::positive_of(amount) else {
+        return ToppedUp::InvalidAmount;
+    };
+    let Tenant::Present = moves::tenant_of(seat) else {
+        return ToppedUp::MissingTenant;
+    };
+    let ToppingUp::Grown(grown) = moves::top_up(seat, added) else {
+        return ToppedUp::Overflow;
+    };
+    seats::write_seat(room, part, found, grown);
+    ToppedUp::Done(
+        amount,
+        numbers::amount(grown.initial),
+        numbers::amount(grown.remaining),
+    )
 }
 
 pub fn limit(room: &mut [u8], part: &[u8], amount: Microcents) -> Limited
@@ -91,15 +93,11 @@ pub fn limit(room: &mut [u8], part: &[u8], amount: Microcents) -> Limited
     }
     let found = lookup::find(room, part);
     let seat = seats::seat_at(room, found);
-    let decided = moves::limit(seat, amount);
-    match decided {
-        Limiting::Negative => Limited::NegativeAmount(amount),
-        Limiting::Changed(changed) => {
-            let written = seats::write_seat(room, part, found, changed);
-            match written {
-                Written::Done => Limited::Done,
-                Written::NamesFull => Limited::NamesFull,
-            }
-        }
-    }
+    let Limiting::Changed(changed) = moves::limit(seat, amount) else {
+        return Limited::NegativeAmount(amount);
+    };
+    let Written::Done = seats::write_seat(room, part, found, changed) else {
+        return Limited::NamesFull;
+    };
+    Limited::Done
 }

@@ -6,19 +6,21 @@ use mathlib.Core.List.{[], _∷_}
 use mathlib.Core.Option.{Option, none, some}
 use Prim.Native.Nat.{ℕ, zero, suc, _+_, _-_, _^_, _≤_, _<_}
 use native.Mathlib.Omega.{arith}
-use borrow.Author.Tests.{eq-eqb, ne-eqb, lt-ltb, le-ltb, ltb-false}
-use lib.Dec.{ltb}
+use borrow.Author.Tests.{eq-eqb, ne-eqb, eqb-true, lt-ltb, le-ltb, ltb-false}
+use lib.Dec.{ltb, eqb}
 use lib.IntN.{ℤ, pos, negsuc, _-ℤ_}
 use lib.Signed.{ltZ, mag}
 use Rattle.rules.specs.RoomAndSoundLedger.{M, Account, seat, AddsUp}
-use Rattle.rules.specs.AnswerNumbers.{NegativeAmount, InvalidAmount, MissingTenant, OverflowOfReserve, OverflowOfCommit, OverflowOfTopUp, ExposureLimitExceeded, Insufficient, Overrun}
+use Rattle.rules.specs.AnswerNumbers.{NegativeAmount, InvalidAmount, MissingTenant, MissingReservation, OverflowOfReserve, OverflowOfCommit, OverflowOfTopUp, ExposureLimitExceeded, Insufficient, Overrun}
 use Rattle.rules.specs.AccountRules.{refuse, tell, write, lose, book, leave, end, account, natural, ensureRule, topUpRule, limitRule, reserveRule, commitRule, releaseRule}
+use Rattle.rules.proofs.Tests.{by-test}
 use Rattle.rules.proofs.Delta.{delta-exceeds, remaining-falls}
-use Rattle.numbers.specs.declared.Identifier.{Identifier}
-use Rattle.numbers.specs.declared.Drawing.{Drawing}
-use Rattle.numbers.specs.declared.Drawing.the-variants.{Identifier as TheIdentifier, AllocatorExhausted}
+use Rattle.numbers.specs.declared.Positive.the-variants.{ZeroOrLess}
+use Rattle.numbers.specs.Amounts.{positiveOf}
 use Rattle.moves.specs.declared.Seat.{Seat}
-use Rattle.moves.specs.Moves.{accountIn, accountOf, isUsedUp, kept, keptSeat, SeatSound}
+use Rattle.moves.specs.declared.Tenant.the-variants.{Present, Missing}
+use Rattle.moves.specs.declared.Exposure.the-variants.{Within, Exceeded}
+use Rattle.moves.specs.Moves.{accountIn, accountOf, tenantOf, exposureOf, kept, keptSeat, SeatSound}
 
 -- what a callee's answer says of the definition that its contract names
 pub told : {A : Type 0} {r t b : A} → r ≡ t → r ≡ b → t ≡ b
@@ -40,6 +42,12 @@ module _ (s : Seat) where
 
   pub with-account : (s .account ≡ 0 → ⊥) → accountOf s ≡ some (accountIn s)
   with-account h = rw (ne-eqb (s .account) 0 h)
+
+  pub is-missing : tenantOf s ≡ Missing → s .account ≡ 0
+  is-missing = by-test (λ t. t ≡ Missing → s .account ≡ 0) (eqb (s .account) 0) (λ t e. eqb-true (s .account) 0 t) (λ t e. absurd (let z : _≡_ {A = ℕ} 0 1 = cc in omega arith))
+
+  pub is-present : tenantOf s ≡ Present → s .account ≡ 0 → ⊥
+  is-present e h = let z : _≡_ {A = ℕ} 0 1 = (let q : tenantOf s ≡ Missing = rw (eq-eqb (s .account) 0 h) in cc) in omega arith
 
   pub amounts-add-up : SeatSound s → (s .account ≡ 0 → ⊥) → AmountsAddUp s
   amounts-add-up sound h = subst AddsUp (with-account h) (sound .adds-up)
@@ -87,13 +95,11 @@ module _ (s : Seat) (z : ℤ) (n : ℕ) (amount : z ≡ pos n) where
 
 -- ── top-up ─────────────────────────────────────────────────────────────────────────────────────
 
-pub top-up-negative : (z : ℤ) (c : Option Account) (l : ℕ) → z ≡ negsuc (mag z) → refuse InvalidAmount ≡ topUpRule z c l
+pub top-up-of-none : (z : ℤ) (c : Option Account) (l : ℕ) → positiveOf z ≡ ZeroOrLess → refuse InvalidAmount ≡ topUpRule z c l
 unfolding topUpRule
-top-up-negative z c l e = rw e
-
-pub top-up-zero : (z : ℤ) (c : Option Account) (l n : ℕ) → z ≡ pos n → n ≡ 0 → refuse InvalidAmount ≡ topUpRule z c l
-unfolding topUpRule
-top-up-zero z c l n amount e = rw (amount, e)
+top-up-of-none (pos zero) c l e = refl
+top-up-of-none (pos (suc n)) c l e = absurd (let z : _≡_ {A = ℕ} 0 1 = cc in omega arith)
+top-up-of-none (negsuc n) c l e = refl
 
 module _ (s : Seat) (z : ℤ) where
   pub top-up-missing : (n : ℕ) → z ≡ pos n → (n ≡ 0 → ⊥) → s .account ≡ 0 → refuse MissingTenant ≡ topUpRule z (accountOf s) (s .limit)
@@ -125,6 +131,13 @@ module _ (z : ℤ) (c : Option Account) (l : ℕ) where
 
 -- ── reserve ────────────────────────────────────────────────────────────────────────────────────
 
+-- what the exposure says of the rule's test
+pub is-exceeded : (l n : ℕ) → exposureOf l n ≡ Exceeded → (ltb 0 l && ltb l n) ≡ true
+is-exceeded l n = by-test (λ e. e ≡ Exceeded → (ltb 0 l && ltb l n) ≡ true) (ltb 0 l && ltb l n) (λ t _. t) (λ _ e. absurd (let z : _≡_ {A = ℕ} 0 1 = cc in omega arith))
+
+pub is-within : (l n : ℕ) → exposureOf l n ≡ Within → (ltb 0 l && ltb l n) ≡ false
+is-within l n = by-test (λ e. e ≡ Within → (ltb 0 l && ltb l n) ≡ false) (ltb 0 l && ltb l n) (λ _ e. absurd (let z : _≡_ {A = ℕ} 0 1 = cc in omega arith)) (λ t _. t)
+
 -- a reserve that passes the checks before the one of the next id, and what reserved would be
 pub record Passes (s : Seat) (z : ℤ) (n reserved : ℕ) : Type 0 where
   pub asked : Asked s z n
@@ -133,13 +146,11 @@ pub record Passes (s : Seat) (z : ℤ) (n reserved : ℕ) : Type 0 where
   pub within : (ltb 0 (s .limit) && ltb (s .limit) reserved) ≡ false
 
 module _ (last : Bool) where
-  pub reserve-negative : (z : ℤ) (c : Option Account) (l : ℕ) → z ≡ negsuc (mag z) → refuse (Insufficient (pos 0) z) ≡ reserveRule z last c l
+  pub reserve-of-none : (z : ℤ) (c : Option Account) (l : ℕ) → positiveOf z ≡ ZeroOrLess → refuse (Insufficient (pos 0) z) ≡ reserveRule z last c l
   unfolding reserveRule
-  reserve-negative z c l e = rw e
-
-  pub reserve-zero : (z : ℤ) (c : Option Account) (l n : ℕ) → z ≡ pos n → n ≡ 0 → refuse (Insufficient (pos 0) z) ≡ reserveRule z last c l
-  unfolding reserveRule
-  reserve-zero z c l n amount e = rw (amount, e)
+  reserve-of-none (pos zero) c l e = refl
+  reserve-of-none (pos (suc n)) c l e = absurd (let z : _≡_ {A = ℕ} 0 1 = cc in omega arith)
+  reserve-of-none (negsuc n) c l e = refl
 
   module _ (s : Seat) (z : ℤ) where
     pub reserve-missing : (n : ℕ) → z ≡ pos n → (n ≡ 0 → ⊥) → s .account ≡ 0 → refuse MissingTenant ≡ reserveRule z last (accountOf s) (s .limit)
@@ -167,23 +178,26 @@ module _ (last : Bool) where
     reserve-passes zero reserved p = absurd (p .asked .positive refl)
     reserve-passes (suc n) reserved p = rw (p .asked .amount, with-account s (p .asked .present), le-ltb M (s .reserved + suc n) (p .fits), ← p .sum, p .within)
 
-module _ (s : Seat) (z : ℤ) (n reserved : ℕ) (passes : Passes s z n reserved) (d : Drawing) where
-  pub reserve-ids-used : d ≡ AllocatorExhausted → refuse (OverflowOfReserve (pos (s .reserved))) ≡ reserveRule z (isUsedUp d) (accountOf s) (s .limit)
-  reserve-ids-used e = rw (reserve-passes (isUsedUp d) s z n reserved passes, e)
+module _ (s : Seat) (z : ℤ) (n reserved : ℕ) (passes : Passes s z n reserved) where
+  pub reserve-ids-used : refuse (OverflowOfReserve (pos (s .reserved))) ≡ reserveRule z true (accountOf s) (s .limit)
+  reserve-ids-used = rw (reserve-passes true s z n reserved passes)
 
-  module _ (id : Identifier) (drew : d ≡ TheIdentifier id) where
-    pub reserve-insufficient : s .remaining < n → lose (Insufficient (pos (s .remaining)) (pos n)) ≡ reserveRule z (isUsedUp d) (accountOf s) (s .limit)
-    reserve-insufficient short = rw (reserve-passes (isUsedUp d) s z n reserved passes, drew, lt-ltb (s .remaining) n short)
+  pub reserve-insufficient : s .remaining < n → lose (Insufficient (pos (s .remaining)) (pos n)) ≡ reserveRule z false (accountOf s) (s .limit)
+  reserve-insufficient short = rw (reserve-passes false s z n reserved passes, lt-ltb (s .remaining) n short)
 
-    pub reserve-books : n ≤ s .remaining
-        → book (s .remaining - n) (seat (account (s .initial) (s .remaining - n) reserved (s .committed)) (s .limit)) n ≡ reserveRule z (isUsedUp d) (accountOf s) (s .limit)
-    reserve-books enough = rw (reserve-passes (isUsedUp d) s z n reserved passes, drew, le-ltb (s .remaining) n enough)
+  pub reserve-books : n ≤ s .remaining
+      → book (s .remaining - n) (seat (account (s .initial) (s .remaining - n) reserved (s .committed)) (s .limit)) n ≡ reserveRule z false (accountOf s) (s .limit)
+  reserve-books enough = rw (reserve-passes false s z n reserved passes, le-ltb (s .remaining) n enough)
 
 -- ── commit ─────────────────────────────────────────────────────────────────────────────────────
 
-pub commit-negative : (z : ℤ) (booked : ℕ) (c : Option Account) (l : ℕ) → z ≡ negsuc (mag z) → leave InvalidAmount ≡ commitRule z (some booked) c l
+pub commit-negative : (z : ℤ) (live : Option ℕ) (c : Option Account) (l : ℕ) → z ≡ negsuc (mag z) → commitRule z live c l ≡ leave InvalidAmount
 unfolding commitRule
-commit-negative z booked c l e = rw e
+commit-negative z live c l e = rw e
+
+pub commit-gone : (z : ℤ) (n : ℕ) → z ≡ pos n → commitRule z none none 0 ≡ leave MissingReservation
+unfolding commitRule
+commit-gone z n amount = rw amount
 
 module _ (s : Seat) (booked : ℕ) (z : ℤ) (n : ℕ) (amount : z ≡ pos n) where
   pub commit-missing : s .account ≡ 0 → leave MissingTenant ≡ commitRule z (some booked) (accountOf s) (s .limit)

@@ -1,18 +1,20 @@
 // The account rules by value: what an airline has goes in, and what the rule decides comes out. No table is seen here.
-use numbers::Drawing;
 use numbers::Held;
-use numbers::Identifier;
 use numbers::Microcents;
 use numbers::Remainder;
 use numbers::Sign;
 use numbers::Sum;
 ghost use mathlib.Core.Path.{_≡_};
-ghost use mathlib.Core.Bool.{_&&_};
+ghost use mathlib.Core.Bool.{false, _&&_};
 ghost use mathlib.Core.Option.{some};
-ghost use Prim.Native.Nat.{_≤_, _<_};
+ghost use Prim.Native.Nat.{_+_, _≤_, _<_};
 ghost use lib.Dec.{ltb};
+ghost use lib.IntN.{pos};
+ghost use Rattle.rules.specs.RoomAndSoundLedger.{M};
 ghost use Rattle.rules.specs.AccountRules.{ensureRule, topUpRule, limitRule, reserveRule, commitRule, releaseRule};
-ghost use Rattle.moves.specs.Moves.{SeatSound, accountOf, isUsedUp, ensuringMove, toppingUpMove, limitingMove, reservingMove, committingSettlement, releasingSettlement, EnsuringSound, ToppingUpSound, LimitingSound, ReservingSound, CommittingSound, ReleasingSound};
+ghost use Rattle.moves.specs.declared.Tenant.the-variants.{Present};
+ghost use Rattle.moves.specs.declared.Exposure.the-variants.{Within};
+ghost use Rattle.moves.specs.Moves.{SeatSound, accountOf, tenantOf, exposureOf, ensuringMove, toppingUpMove, limitingMove, reservingMove, committingSettlement, releasingSettlement, EnsuringSound, ToppingUpSound, LimitingSound, ReservingSound, CommittingSound, ReleasingSound};
 
 // What a place keeps of a name beside the name: account is 1 with an account and 0 without one, and a limit of 0 is none.
 pub struct Seat {
@@ -24,15 +26,18 @@ pub struct Seat {
     pub account: u8,
 }
 
+// Whether a name has an account.
+pub enum Tenant {
+    Present,
+    Missing,
+}
+
 pub enum Ensuring {
-    Negative,
     Present,
     Opened(Seat),
 }
 
 pub enum ToppingUp {
-    Invalid,
-    Missing,
     Overflow,
     Grown(Seat),
 }
@@ -42,21 +47,20 @@ pub enum Limiting {
     Changed(Seat),
 }
 
+// A sum of reserved amounts against a limit.
+pub enum Exposure {
+    Within,
+    Exceeded,
+}
+
 // Insufficient uses the id up all the same; the room for a booking is asked by the caller, last.
 pub enum Reserving {
-    NotPositive,
-    Missing,
-    Overflow(u64),
-    Exposed(u64, u64),
-    Insufficient(u64, u64),
-    Booked(Seat, Held, Identifier),
+    Insufficient,
+    Booked(Seat),
 }
 
 pub enum Committing {
-    Invalid,
-    Missing,
-    Overflow(u64),
-    Overrun(u64),
+    Overrun,
     Ended(Seat),
 }
 
@@ -65,17 +69,23 @@ pub enum Releasing {
     Returned(Seat),
 }
 
-// Opens an account with the amount, where the name has none.
-pub fn ensure(seat: Seat, amount: Microcents) -> Ensuring
-    requires { ⌜ SeatSound seat ⌝ }
-    ensures { λ r. ⌜ (ensuringMove (amount .0) r ≡ ensureRule (amount .0) (accountOf seat) (seat .limit)) × EnsuringSound r ⌝ }
+pub fn tenant_of(seat: Seat) -> Tenant
+    ensures { λ r. ⌜ r ≡ tenantOf seat ⌝ }
 {
-    let Sign::Natural(opening) = numbers::sign_of(amount) else {
-        return Ensuring::Negative;
-    };
-    if seat.account != 0 {
-        return Ensuring::Present;
+    if seat.account == 0 {
+        return Tenant::Missing;
     }
+    Tenant::Present
+}
+
+// Opens an account with an amount that is not negative, where the name has none.
+pub fn ensure(seat: Seat, opening: u64) -> Ensuring
+    requires { ⌜ SeatSound seat × (opening ≤ M) ⌝ }
+    ensures { λ r. ⌜ (ensuringMove r ≡ ensureRule (pos opening) (accountOf seat) (seat .limit)) × EnsuringSound r ⌝ }
+{
+    let Tenant::Missing = tenant_of(seat) else {
+        return Ensuring::Present;
+    };
     Ensuring::Opened(Seat {
         initial: opening,
         remaining: opening,
@@ -87,19 +97,10 @@ pub fn ensure(seat: Seat, amount: Microcents) -> Ensuring
 }
 
 // Adds a positive amount to an account.
-pub fn top_up(seat: Seat, amount: Microcents) -> ToppingUp
-    requires { ⌜ SeatSound seat ⌝ }
-    ensures { λ r. ⌜ (toppingUpMove (amount .0) r ≡ topUpRule (amount .0) (accountOf seat) (seat .limit)) × ToppingUpSound r ⌝ }
+pub fn top_up(seat: Seat, added: u64) -> ToppingUp
+    requires { ⌜ SeatSound seat × (tenantOf seat ≡ Present) × (0 < added) ⌝ }
+    ensures { λ r. ⌜ (toppingUpMove (pos added) r ≡ topUpRule (pos added) (accountOf seat) (seat .limit)) × ToppingUpSound r ⌝ }
 {
-    let Sign::Natural(added) = numbers::sign_of(amount) else {
-        return ToppingUp::Invalid;
-    };
-    if added == 0 {
-        return ToppingUp::Invalid;
-    }
-    if seat.account == 0 {
-        return ToppingUp::Missing;
-    }
     let Sum::Fits(initial) = numbers::plus(seat.initial, added) else {
         return ToppingUp::Overflow;
     };
@@ -138,63 +139,44 @@ fn exceeds(limit: u64, reserved: u64) -> bool
     0 < limit && limit < reserved
 }
 
-// Sets a cost aside under the id drawn. Whether one was drawn is asked after the limit and before the balance, so that an insufficient one uses it up.
-pub fn reserve(seat: Seat, cost: Microcents, drawing: Drawing) -> Reserving
-    requires { ⌜ SeatSound seat ⌝ }
-    ensures { λ r. ⌜ (reservingMove (cost .0) r ≡ reserveRule (cost .0) (isUsedUp drawing) (accountOf seat) (seat .limit)) × ReservingSound drawing r ⌝ }
+pub fn exposure_of(limit: u64, reserved: u64) -> Exposure
+    ensures { λ r. ⌜ r ≡ exposureOf limit reserved ⌝ }
 {
-    let Sign::Natural(asked) = numbers::sign_of(cost) else {
-        return Reserving::NotPositive;
-    };
-    if asked == 0 {
-        return Reserving::NotPositive;
+    if exceeds(limit, reserved) {
+        return Exposure::Exceeded;
     }
-    if seat.account == 0 {
-        return Reserving::Missing;
-    }
-    let Sum::Fits(reserved) = numbers::plus(seat.reserved, asked) else {
-        return Reserving::Overflow(seat.reserved);
-    };
-    if exceeds(seat.limit, reserved) {
-        return Reserving::Exposed(seat.reserved, seat.limit);
-    }
-    let Drawing::Identifier(id) = drawing else {
-        return Reserving::Overflow(seat.reserved);
-    };
-    if seat.remaining < asked {
-        return Reserving::Insufficient(seat.remaining, asked);
-    }
-    Reserving::Booked(
-        Seat {
-            initial: seat.initial,
-            remaining: seat.remaining - asked,
-            reserved,
-            committed: seat.committed,
-            limit: seat.limit,
-            account: 1,
-        },
-        Held(asked),
-        id,
-    )
+    Exposure::Within
 }
 
-// Spends what was booked, more or less of it: delta is taken from what remains, or given back where it is negative.
-pub fn commit(seat: Seat, booked: Held, actual: Microcents) -> Committing
-    requires { ⌜ SeatSound seat × (booked .0 ≤ seat .reserved) ⌝ }
-    ensures { λ r. ⌜ (committingSettlement (actual .0) r ≡ commitRule (actual .0) (some (booked .0)) (accountOf seat) (seat .limit)) × CommittingSound r ⌝ }
+// Sets a positive cost aside, where an id was drawn for it. Reserved is the sum with the cost, which the limit allows.
+pub fn reserve(seat: Seat, asked: u64, reserved: u64) -> Reserving
+    requires known { ⌜ SeatSound seat × (tenantOf seat ≡ Present) × (0 < asked) ⌝ }
+    requires sum { ⌜ (reserved ≡ seat .reserved + asked) × (reserved ≤ M) × (exposureOf (seat .limit) reserved ≡ Within) ⌝ }
+    ensures { λ r. ⌜ (reservingMove asked (seat .remaining) r ≡ reserveRule (pos asked) false (accountOf seat) (seat .limit)) × ReservingSound r ⌝ }
 {
-    let Sign::Natural(spent) = numbers::sign_of(actual) else {
-        return Committing::Invalid;
-    };
-    if seat.account == 0 {
-        return Committing::Missing;
+    if seat.remaining < asked {
+        return Reserving::Insufficient;
     }
-    let Sum::Fits(committed) = numbers::plus(seat.committed, spent) else {
-        return Committing::Overflow(seat.remaining);
-    };
+    Reserving::Booked(Seat {
+        initial: seat.initial,
+        remaining: seat.remaining - asked,
+        reserved,
+        committed: seat.committed,
+        limit: seat.limit,
+        account: 1,
+    })
+}
+
+// Spends what was booked, more or less of it: delta is taken from what remains, or given back where it is negative. Committed is the sum with what is spent.
+pub fn commit(seat: Seat, booked: Held, spent: u64, committed: u64) -> Committing
+    requires known { ⌜ SeatSound seat × (tenantOf seat ≡ Present) × (booked .0 ≤ seat .reserved) ⌝ }
+    requires sum { ⌜ (committed ≡ seat .committed + spent) × (committed ≤ M) ⌝ }
+    ensures { λ r. ⌜ (committingSettlement (pos spent) (seat .remaining) r ≡ commitRule (pos spent) (some (booked .0)) (accountOf seat) (seat .limit))
+        × CommittingSound r ⌝ }
+{
     let delta = numbers::delta(spent, booked.0);
     let Remainder::Left(remaining) = numbers::less_delta(seat.remaining, delta) else {
-        return Committing::Overrun(seat.remaining);
+        return Committing::Overrun;
     };
     Committing::Ended(Seat {
         initial: seat.initial,
@@ -211,9 +193,9 @@ pub fn release(seat: Seat, booked: Held) -> Releasing
     requires { ⌜ SeatSound seat × (booked .0 ≤ seat .reserved) ⌝ }
     ensures { λ r. ⌜ (releasingSettlement (booked .0) r ≡ releaseRule (some (booked .0)) (accountOf seat) (seat .limit)) × ReleasingSound r ⌝ }
 {
-    if seat.account == 0 {
+    let Tenant::Present = tenant_of(seat) else {
         return Releasing::Missing;
-    }
+    };
     Releasing::Returned(Seat {
         initial: seat.initial,
         remaining: seat.remaining + booked.0,

@@ -1,7 +1,7 @@
 -- Laws of sums, signs and commit's delta: what an answer says of the numbers asked about, and signed numbers as code holds them.
-use mathlib.Core.Path.{_≡_, refl}
+use mathlib.Core.Path.{_≡_, refl, ap}
 use mathlib.Core.Bool.{true, false}
-use Prim.Native.Nat.{ℕ, suc, _+_, _-_, _^_, _≤_, _<_}
+use Prim.Native.Nat.{ℕ, zero, suc, _+_, _-_, _^_, _≤_, _<_}
 use native.Mathlib.Omega.{arith}
 use borrow.Author.Tests.{ltb-true, ltb-false, lt-ltb, le-ltb, le-leb}
 use lib.Dec.{ltb}
@@ -17,8 +17,9 @@ use Rattle.rules.proofs.Tests.{by-test}
 use Rattle.rules.proofs.Delta.{difference}
 use Rattle.numbers.specs.declared.Sum.the-variants.{Fits, AboveM}
 use Rattle.numbers.specs.declared.Sign.the-variants.{Negative, Natural}
+use Rattle.numbers.specs.declared.Positive.the-variants.{Amount, ZeroOrLess}
 use Rattle.numbers.specs.declared.Remainder.the-variants.{Left, Overrun}
-use Rattle.numbers.specs.Amounts.{sumOf, signOf, remainderOf}
+use Rattle.numbers.specs.Amounts.{sumOf, signOf, positiveOf, remainderOf}
 
 -- ── sums ───────────────────────────────────────────────────────────────────────────────────────
 
@@ -52,6 +53,26 @@ sign-negative (negsuc n) e = refl
 pub sign-natural : (z : ℤ) (n : ℕ) → signOf z ≡ Natural n → z ≡ pos n
 sign-natural (pos m) n e = cc
 sign-natural (negsuc m) n e = absurd (let z : _≡_ {A = ℕ} 0 1 = cc in omega arith)
+
+-- by its sign, and whether it is 0
+pub positive-negative : (z : ℤ) → signOf z ≡ Negative → ZeroOrLess ≡ positiveOf z
+positive-negative z e = rw (sign-negative z e)
+
+module _ (z : ℤ) (n : ℕ) (natural : signOf z ≡ Natural n) where
+  pub positive-zero : n ≡ 0 → ZeroOrLess ≡ positiveOf z
+  positive-zero e = rw (sign-natural z n natural, e)
+
+  pub positive-amount : (n ≡ 0 → ⊥) → Amount n ≡ positiveOf z
+  positive-amount h = above n (sign-natural z n natural) h
+    where
+      above : (m : ℕ) → z ≡ pos m → (m ≡ 0 → ⊥) → Amount m ≡ positiveOf z
+      above zero e h = absurd (h refl)
+      above (suc m) e h = rw e
+
+pub positive-is : (z : ℤ) (n : ℕ) → positiveOf z ≡ Amount n → (z ≡ pos n) × (n ≡ 0 → ⊥)
+positive-is (pos zero) n e = absurd (let z : _≡_ {A = ℕ} 0 1 = cc in omega arith)
+positive-is (pos (suc m)) n e = let q : suc m ≡ n = cc in (ap pos q, λ h. omega arith)
+positive-is (negsuc m) n e = absurd (let z : _≡_ {A = ℕ} 0 1 = cc in omega arith)
 
 -- a signed 64-bit number is an amount
 pub amount-fits : (z : ℤ) → mag z < 2 ^ 63 → IsAmount z

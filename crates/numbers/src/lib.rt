@@ -6,7 +6,7 @@ ghost use lib.ListN.{length};
 ghost use Rattle.rules.specs.RoomAndSoundLedger.{M};
 ghost use Rattle.rules.specs.AccountRules.{natural};
 ghost use Rattle.numbers.specs.LittleEndian.{littleNumber, littleBytes};
-ghost use Rattle.numbers.specs.Amounts.{sumOf, signOf, remainderOf};
+ghost use Rattle.numbers.specs.Amounts.{sumOf, signOf, positiveOf, remainderOf};
 
 // What names a reservation.
 pub struct Identifier(pub u64);
@@ -33,6 +33,12 @@ pub enum Sum {
 pub enum Sign {
     Negative,
     Natural(u64),
+}
+
+// An amount by whether it is above 0, where a rule refuses 0 or less.
+pub enum Positive {
+    Amount(u64),
+    ZeroOrLess,
 }
 
 // What a commit's delta leaves of remaining.
@@ -119,6 +125,18 @@ pub fn sign_of(m: Microcents) -> Sign
         return Sign::Negative;
     }
     Sign::Natural(x as u64)
+}
+
+pub fn positive_of(m: Microcents) -> Positive
+    ensures { λ r. ⌜ r ≡ positiveOf (m .0) ⌝ }
+{
+    let Sign::Natural(x) = sign_of(m) else {
+        return Positive::ZeroOrLess;
+    };
+    if x == 0 {
+        return Positive::ZeroOrLess;
+    }
+    Positive::Amount(x)
 }
 
 pub fn amount(x: u64) -> Microcents

@@ -1,17 +1,17 @@
 -- A settlement: what is loaded is the ledger's booking and its airline's seat, and each answer performs the rule's settlement.
 use mathlib.Core.Path.{_≡_, refl, sym, _∙_, ap, ap₂, subst}
 use mathlib.Core.Bool.{true, cond}
-use mathlib.Core.List.{List, [], _∷_, _++_, map}
+use mathlib.Core.List.{List, _++_, map}
 use mathlib.Core.Option.{Option, none, some}
 use Prim.Native.Nat.{ℕ, suc, _+_, _*_, _≤_, _<_}
 use native.Mathlib.Omega.{arith}
 use lib.IntN.{ℤ}
 use lib.ListN.{length, getD, take, drop, List·getD-map}
 use Rattle.rules.specs.RoomAndSoundLedger.{Account, Seat as RulesSeat, Place as RulesPlace, Booking as RulesBooking, Ledger, withPlaces, withBookings, seatIn, hasAccount, holdsPlace, reservedFor, AddsUp}
-use Rattle.rules.specs.AnswerNumbers.{Reply, Refusal, replyOf}
+use Rattle.rules.specs.AnswerNumbers.{Reply, Refusal, replyOf, refused}
 use Rattle.rules.specs.AccountRules.{Settlement, leave, end, AccountOperation, operate, onBooking, settle, booked, ended, seated, doneWith}
 use Rattle.rules.specs.Domain.{AccountOperationFits}
-use Rattle.rules.proofs.Tests.{true-false}
+use Rattle.rules.proofs.Tests.{by-option, true-false}
 use Rattle.rules.proofs.Places.{seatIn-all, account-holds}
 use Rattle.rules.proofs.Bookings.{booked-id}
 use Rattle.rules.proofs.SoundByName.{AccountSound, part-of-sum, by-name}
@@ -148,6 +148,13 @@ module _ (xs : List ℕ) (L : Ledger) (room : IsRoom xs L) where
     pub refuses : booked id bs ≡ none → (e : Refusal) → rule none none 0 ≡ leave e → (r : Reply) → r ≡ replyOf e → Performed (λ K. operate K x) L r xs
     unfolding onBooking settle
     refuses is e left r q = stays x L xs room r (replyOf e) (settles ∙ ap (λ o. onBooking L o rule) is ∙ ap (settle L none) left) q
+
+    -- refused whether there is one or not
+    pub refuses-any : (e : Refusal) → ((live : Option ℕ) (c : Option Account) (l : ℕ) → rule live c l ≡ leave e) → (r : Reply) → r ≡ replyOf e → Performed (λ K. operate K x) L r xs
+    unfolding onBooking settle
+    refuses-any e left r q =
+        stays x L xs room r (replyOf e)
+        (settles ∙ by-option (λ o. onBooking L o rule ≡ refused e L) (booked id bs) (λ _. ap (settle L none) (left none none 0)) (λ b _. ap (settle L (some b)) (left (some (b .amount)) _ _))) q
 
     -- the rule at what is due is the rule at the airline's seat
     pub settled : (j : ℕ) → Live L id j → (d : Due) → d ≡ dueAt L j → (decided : Settlement) → decided ≡ rule (some (d .amount .0)) (accountOf (d .seat)) (d .seat .limit)

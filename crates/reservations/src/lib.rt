@@ -1,21 +1,24 @@
 // Reserve, commit and release on a ledger already known to be sound, which they leave sound.
 use moves::Committing;
+use moves::Exposure;
 use moves::Releasing;
 use moves::Reserving;
 use moves::Seat;
+use moves::Tenant;
+use numbers::Drawing;
 use numbers::Held;
 use numbers::Identifier;
 use numbers::Microcents;
+use numbers::Positive;
 use numbers::Sign;
+use numbers::Sum;
 use records::Booking;
 use records::Head;
 use room::Found;
 ghost use mathlib.Core.Path.{_≡_};
-ghost use mathlib.Core.Option.{none};
 ghost use Prim.Native.Nat.{_≤_, _<_};
 ghost use Rattle.rules.specs.RoomAndSoundLedger.{M};
-ghost use Rattle.rules.specs.AnswerNumbers.{Refusal, replyOf};
-ghost use Rattle.rules.specs.AccountRules.{leave, commitRule, reserve, commit, release, operate};
+ghost use Rattle.rules.specs.AccountRules.{reserve, commit, release, operate};
 ghost use Rattle.room.specs.Contents.{contentsOf, Sized, removedBooking};
 ghost use Rattle.room.specs.Room.{SoundRoom, Performs, OfRoom};
 ghost use Rattle.room.specs.Seats.{withSeat};
@@ -94,26 +97,32 @@ pub fn reserve(room: &mut [u8], part: &[u8], cost: Microcents) -> Reserved
     let head = records::load_head(room);
     let drawn = heads::after_draw(head);
     let drawing = drawn.drawing;
-    let decided = moves::reserve(seat, cost, drawing);
-    match decided {
-        Reserving::NotPositive => Reserved::Insufficient(numbers::amount(0), cost),
-        Reserving::Missing => Reserved::MissingTenant,
-        Reserving::Overflow(reserved) => Reserved::Overflow(numbers::amount(reserved)),
-        Reserving::Exposed(reserved, limit) => Reserved::ExposureLimitExceeded(
-            numbers::amount(reserved),
-            numbers::amount(limit),
-        ),
-        Reserving::Insufficient(remaining, asked) => {
-            tables::put_head(room, drawn.head);
-            Reserved::Insufficient(numbers::amount(remaining), numbers::amount(asked))
-        }
-        Reserving::Booked(booked, asked, id) => {
-            let Found::At(i) = found else {
-                return Reserved::MissingTenant;
-            };
-            book(room, i, booked, asked, id, drawn.head)
-        }
-    }
+    let Positive::Amount(asked) = numbers::positive_of(cost) else {
+        return Reserved::Insufficient(numbers::amount(0), cost);
+    };
+    let Tenant::Present = moves::tenant_of(seat) else {
+        return Reserved::MissingTenant;
+    };
+    let Sum::Fits(reserved) = numbers::plus(seat.reserved, asked) else {
+        return Reserved::Overflow(numbers::amount(seat.reserved));
+    };
+    let Exposure::Within = moves::exposure_of(seat.limit, reserved) else {
+        return Reserved::ExposureLimitExceeded(
+            numbers::amount(seat.reserved),
+            numbers::amount(seat.limit),
+        );
+    };
+    let Drawing::Identifier(id) = drawing else {
+        return Reserved::Overflow(numbers::amount(seat.reserved));
+    };
+    let Reserving::Booked(booked) = moves::reserve(seat, asked, reserved) else {
+        tables::put_head(room, drawn.head);
+        return Reserved::Insufficient(numbers::amount(seat.remaining), numbers::amount(asked));
+    };
+    let Found::At(i) = found else {
+        return Reserved::MissingTenant;
+    };
+    book(room, i, booked, Held(asked), id, drawn.head)
 }
 
 // What a settlement asks of the reservation at j.
@@ -147,33 +156,26 @@ pub fn commit(room: &mut [u8], id: Identifier, actual: Microcents) -> Committed
     requires { ⌜ SoundRoom (now room) ⌝ }
     ensures { λ r. ⌜ Performs (λ K. operate K (commit (id .0) (actual .0))) (now (room .entry)) (committedReply r) (now (room .exit)) ⌝ }
 {
+    let Sign::Natural(spent) = numbers::sign_of(actual) else {
+        return Committed::InvalidAmount;
+    };
     let Found::At(j) = lookup::find_booking(room, id) else {
-        return missing_commit(actual);
+        return Committed::MissingReservation;
     };
     let due = due_at(room, j);
     let seat = due.seat;
     let booked = due.amount;
-    let decided = moves::commit(seat, booked, actual);
-    match decided {
-        Committing::Invalid => Committed::InvalidAmount,
-        Committing::Missing => Committed::MissingTenant,
-        Committing::Overflow(remaining) => Committed::Overflow(numbers::amount(remaining)),
-        Committing::Overrun(remaining) => Committed::Overrun(numbers::amount(remaining)),
-        Committing::Ended(ended) => {
-            end(room, j, due.owner, ended);
-            Committed::Done(numbers::amount(ended.remaining), actual)
-        }
-    }
-}
-
-// A commit where no reservation is live: 2 for a negative amount comes before 7.
-fn missing_commit(actual: Microcents) -> Committed
-    ensures { λ r. ⌜ ((e : Refusal) × (commitRule (actual .0) none none 0 ≡ leave e) × (committedReply r ≡ replyOf e)) ⌝ }
-{
-    let Sign::Natural(_) = numbers::sign_of(actual) else {
-        return Committed::InvalidAmount;
+    let Tenant::Present = moves::tenant_of(seat) else {
+        return Committed::MissingTenant;
     };
-    Committed::MissingReservation
+    let Sum::Fits(committed) = numbers::plus(seat.committed, spent) else {
+        return Committed::Overflow(numbers::amount(seat.remaining));
+    };
+    let Committing::Ended(ended) = moves::commit(seat, booked, spent, committed) else {
+        return Committed::Overrun(numbers::amount(seat.remaining));
+    };
+    end(room, j, due.owner, ended);
+    Committed::Done(numbers::amount(ended.remaining), actual)
 }
 
 pub fn release(room: &mut [u8], id: Identifier) -> Released
@@ -186,15 +188,12 @@ pub fn release(room: &mut [u8], id: Identifier) -> Released
     let due = due_at(room, j);
     let seat = due.seat;
     let booked = due.amount;
-    let decided = moves::release(seat, booked);
-    match decided {
-        Releasing::Missing => Released::MissingTenant,
-        Releasing::Returned(returned) => {
-            end(room, j, due.owner, returned);
-            Released::Done(
-                numbers::amount(returned.remaining),
-                numbers::amount(booked.0),
-            )
-        }
-    }
+    let Releasing::Returned(returned) = moves::release(seat, booked) else {
+        return Released::MissingTenant;
+    };
+    end(room, j, due.owner, returned);
+    Released::Done(
+        numbers::amount(returned.remaining),
+        numbers::amount(booked.0),
+    )
 }

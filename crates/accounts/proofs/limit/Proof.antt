@@ -65,7 +65,7 @@ write-seat-requires : tie.Need-write-seat-requires
 write-seat-requires c κs =
     let t = c .before .before in
     let d = t .before .before in
-    ready (seen (d .before)) (op (entry (d .before))) [] (t .decided .given .0 .0) (moves d (Changed (t .decided .given .0 .0)) (t .decided .given .1)) (subst LimitingSound (t .decided .given .1) (d .limit .ensures .1))
+    ready (seen (d .before)) (op (entry (d .before))) [] (t .changed .given .0 .0) (moves d (Changed (t .changed .given .0 .0)) (t .changed .given .1)) (subst LimitingSound (t .changed .given .1) (d .limit .ensures .1))
 
 written : (c : tie.After-write-seat) →
     let k = entry (c .before .before .before .before .before .before) in
@@ -73,14 +73,14 @@ written : (c : tie.After-write-seat) →
 written c L room v e =
     let t = c .before .before .before in
     let d = t .before .before in
-    answers (op (entry (d .before))) L room (seen (d .before)) [] (t .decided .given .0 .0) (moves d (Changed (t .decided .given .0 .0)) (t .decided .given .1)) (c .write-seat .last .0) (c .write-seat .result)
+    answers (op (entry (d .before))) L room (seen (d .before)) [] (t .changed .given .0 .0) (moves d (Changed (t .changed .given .0 .0)) (t .changed .given .1)) (c .write-seat .last .0) (c .write-seat .result)
     (c .write-seat .ensures L room) v e
 
 returns-3 : tie.Need-returns-3
-returns-3 c L room = written (c .before .before .before .before) L room Done (c .enum-told2 .given .1)
+returns-3 c L room = written (c .before .before .before .before) L room NamesFull (c .enum-told3 .given .1)
 
 returns-4 : tie.Need-returns-4
-returns-4 c L room = written (c .before .before .before .before) L room NamesFull (c .enum-told3 .given .1)
+returns-4 c L room = written (c .before .before .before .before) L room Done (c .enum-told2 .given .1)
 
 pub limit-spec : {M : Type 1} → statement M
 limit-spec =
@@ -92,11 +92,11 @@ limit-spec =
     limit-requires
     (λ c. search needs)
     (λ c. search needs)
+    (λ c. search needs)
+    returns-2
     write-seat-requires
     (λ c. search needs)
     (λ c. search needs)
-    (λ c. search needs)
-    returns-2
     (λ c. search needs)
     returns-3
     (λ c. search needs)

@@ -8,10 +8,11 @@ use Rattle.rules.specs.AnswerNumbers.{InvalidAmount, MissingTenant, OverflowOfT
 use Rattle.rules.specs.AccountRules.{doneWith, topUpRule}
 use Rattle.rules.specs.Domain.{IsAmount, IsBytes}
 use Rattle.numbers.proofs.Bytes.{all-bytes}
-use Rattle.numbers.proofs.Amounts.{amount-fits}
+use Rattle.numbers.proofs.Amounts.{amount-fits, positive-is}
 use Rattle.moves.specs.Moves.{accountOf, meaning, toppingUpMove, ToppingUpSound, SeatSound}
 use Rattle.moves.specs.declared.ToppingUp.{ToppingUp}
-use Rattle.moves.specs.declared.ToppingUp.the-variants.{Invalid, Missing, Overflow, Grown}
+use Rattle.moves.specs.declared.ToppingUp.the-variants.{Overflow, Grown}
+use Rattle.moves.proofs.Cases.{told, is-missing, top-up-of-none, top-up-missing}
 use Rattle.moves.specs.declared.Seat.{Seat}
 use Rattle.room.specs.Room.{Performed}
 use Rattle.room.proofs.SoundRoom.{searchable}
@@ -46,41 +47,65 @@ entry c = c .before .before .before .before .before
 seen : (c : tie.After-seat-at) → let s = entry c .before .before in Seen (s .args .room .now) (s .args .part .now) (c .before .before .find .result) (c .seat-at .result)
 seen c = record { sound = entry c .before .before .pre; short = c .before .before .before .before .if1 .left; found-is = c .before .before .find .ensures; seat-is = c .seat-at .ensures }
 
--- what the rule decided is a move of the rules
-moves : (c : tie.After-top-up) (m : ToppingUp) → c .top-up .result ≡ m →
-    let s = entry (c .before) .before .before in
-    toppingUpMove (s .args .amount .0) m ≡ topUpRule (s .args .amount .0) (accountOf (c .before .seat-at .result)) (c .before .seat-at .result .limit)
-moves c m e = sym (ap (toppingUpMove (entry (c .before) .before .before .args .amount .0)) e) ∙ c .top-up .ensures .0
-
-top-up-requires : tie.Need-top-up-requires
-top-up-requires c κs = seen-sound (seen c)
-
 returns-2 : tie.Need-returns-2
-returns-2 c L room = let d = c .before .before in refuses (op (entry (d .before))) L room (seen (d .before)) InvalidAmount (moves d Invalid (c .enum-told .given .1))
+returns-2 c L room =
+    let d = c .before .before .before in
+    let z = entry d .before .before .args .amount .0 in
+    refuses (op (entry d)) L room (seen d) InvalidAmount (top-up-of-none z _ _ (told (c .before .before .positive-of .ensures) (c .enum-told .given .1)))
+
+-- the amount, which is positive
+amount-is : (c : tie.After-known-told) → let n = c .before .added .given .0 .0 in (entry (c .before .before .before .before) .before .before .args .amount .0 ≡ pos n) × (n ≡ 0 → ⊥)
+amount-is c = positive-is (entry (c .before .before .before .before) .before .before .args .amount .0) _ (told (c .before .before .before .positive-of .ensures) (c .before .added .given .1))
 
 returns-3 : tie.Need-returns-3
-returns-3 c L room = let d = c .before .before in refuses (op (entry (d .before))) L room (seen (d .before)) MissingTenant (moves d Missing (c .enum-told2 .given .1))
+returns-3 c L room =
+    let k = c .before .before .before in
+    let d = c .before .before .before .before .before .before .before in
+    let t = d .seat-at .result in
+    refuses (op (entry d)) L room (seen d) MissingTenant
+    (top-up-missing t _ _ (amount-is k .0) (amount-is k .1) (is-missing t (told (c .before .before .tenant-of .ensures) (c .enum-told3 .given .1))))
+
+top-up-requires : tie.Need-top-up-requires
+top-up-requires c κs =
+    let k = c .before .before .before in
+    let n : k .before .added .given .0 .0 ≡ 0 → ⊥ = amount-is k .1 in
+    (seen-sound (seen (c .before .before .before .before .before .before .before)), told (c .before .before .tenant-of .ensures) (c .enum-told2 .given .1), omega arith)
+
+-- what was looked up before the rule decided
+abbrev looked : tie.After-top-up → tie.After-seat-at
+looked c = c .before .before .before .before .before .before .before .before
+
+-- what the rule decided is a move of the rules
+moves : (c : tie.After-top-up) (m : ToppingUp) → c .top-up .result ≡ m →
+    let z = entry (looked c) .before .before .args .amount .0 in
+    let t = looked c .seat-at .result in
+    toppingUpMove z m ≡ topUpRule z (accountOf t) (t .limit)
+moves c m e =
+    let t = looked c .seat-at .result in
+    let z = amount-is (c .before .before .before .before) .0 in
+    sym (ap (toppingUpMove (entry (looked c) .before .before .args .amount .0)) e)
+    ∙ subst (λ n. toppingUpMove n (c .top-up .result) ≡ topUpRule n (accountOf t) (t .limit)) (sym z) (c .top-up .ensures .0)
 
 returns-4 : tie.Need-returns-4
-returns-4 c L room = let d = c .before .before in refuses (op (entry (d .before))) L room (seen (d .before)) OverflowOfTopUp (moves d Overflow (c .enum-told3 .given .1))
+returns-4 c L room = let d = c .before .before in refuses (op (entry (looked d))) L room (seen (looked d)) OverflowOfTopUp (moves d Overflow (c .enum-told4 .given .1))
 
 -- ── the seat that is written ───────────────────────────────────────────────────────────────────
 
-abbrev grown : tie.After-decided → Seat
-grown t = t .decided .given .0 .0
+abbrev grown : tie.After-grown → Seat
+grown t = t .grown .given .0 .0
 
 -- what a top-up carries
-abbrev carried : tie.After-decided → List ℤ
-carried t = entry (t .before .before .before) .before .before .args .amount .0 ∷ pos (grown t .initial) ∷ pos (grown t .remaining) ∷ []
+abbrev carried : tie.After-grown → List ℤ
+carried t = entry (looked (t .before .before)) .before .before .args .amount .0 ∷ pos (grown t .initial) ∷ pos (grown t .remaining) ∷ []
 
-known : (t : tie.After-decided) → SeatSound (grown t)
-known t = subst ToppingUpSound (t .decided .given .1) (t .before .before .top-up .ensures .1)
+known : (t : tie.After-grown) → SeatSound (grown t)
+known t = subst ToppingUpSound (t .grown .given .1) (t .before .before .top-up .ensures .1)
 
 write-seat-requires : tie.Need-write-seat-requires
 write-seat-requires c κs =
     let t = c .before .before in
     let d = t .before .before in
-    ready (seen (d .before)) (op (entry (d .before))) (carried t) (grown t) (moves d (Grown (grown t)) (t .decided .given .1)) (known t)
+    ready (seen (looked d)) (op (entry (looked d))) (carried t) (grown t) (moves d (Grown (grown t)) (t .grown .given .1)) (known t)
 
 amount-requires : tie.Need-amount-requires
 amount-requires c κs = let t = c .before .before .before .before .before in seat-small (grown t) (known t) .initial
@@ -93,9 +118,9 @@ returns-5 c L room =
     let w = c .before .before .before .before in
     let t = w .before .before .before in
     let d = t .before .before in
-    let k = d .before in
+    let k = looked d in
     let z = entry k .before .before .args .amount .0 in
-    let move = moves d (Grown (grown t)) (t .decided .given .1) in
+    let move = moves d (Grown (grown t)) (t .grown .given .1) in
     let has = top-up-writes z (accountOf (k .seat-at .result)) (k .seat-at .result .limit) (carried t) (meaning (grown t)) move .0 in
     let done = writes-held (op (entry k)) L room (seen k) (carried t) (grown t) move (w .write-seat .last .0) (w .write-seat .result) (w .write-seat .ensures L room) has in
     subst (λ zs. Performed (op (entry k) .carry) L (doneWith zs) (w .write-seat .last .0)) (sym (λ i. z ∷ c .before .amount .ensures i ∷ c .amount2 .ensures i ∷ [])) done
@@ -107,19 +132,23 @@ top-up-spec =
     returns
     find-requires
     seat-at-requires
+    (λ c κs. search needs)
+    (λ c. search needs)
+    (λ c. search needs)
+    (λ c. search needs)
+    returns-2
+    (λ c κs. search needs)
+    (λ c. search needs)
+    (λ c. search needs)
+    (λ c. search needs)
+    returns-3
     top-up-requires
     (λ c. search needs)
     (λ c. search needs)
     (λ c. search needs)
-    (λ c. search needs)
+    returns-4
     write-seat-requires
     amount-requires
     amount-requires-2
-    (λ c. search needs)
-    returns-2
-    (λ c. search needs)
-    returns-3
-    (λ c. search needs)
-    returns-4
     (λ c. search needs)
     returns-5)

@@ -1,26 +1,20 @@
--- `moves::ensure`: a lemma of Cases for each return. A signed 64-bit amount that is not negative is at most M, so the account opened is sound.
-use mathlib.Core.Path.{_≡_}
+-- `moves::ensure`: a lemma of Cases for each return; the account opened is sound, since the amount is at most M.
+use mathlib.Core.Path.{refl}
 use native.Mathlib.Omega.{arith}
 use borrow.Author.Needs.{needs}
-use lib.IntN.{pos}
-use Rattle.numbers.proofs.Amounts.{sign-negative, sign-natural}
-use Rattle.moves.proofs.Cases.{told, natural-small, account-sound, ensure-negative, ensure-present, ensure-opens}
+use Rattle.moves.proofs.Cases.{told, is-missing, is-present, account-sound, ensure-present, ensure-opens}
 use Rattle.moves.proofs.ensure.Statement.{statement}
 use Rattle.moves.proofs.ensure.Tie as tie
 
 returns : tie.Need-returns
-returns c = search (ensure-negative, sign-negative, told)
-
-amount-is : (c : tie.After-known-told) → c .before .before .before .before .args .amount .0 ≡ pos (c .before .opening .given .0 .0)
-amount-is c = search (sign-natural, told)
+returns c = let s = c .before .before .before in (ensure-present (s .args .seat) _ _ refl (is-present (s .args .seat) (told (c .before .before .tenant-of .ensures) (c .enum-told2 .given .1))), tt)
 
 returns-2 : tie.Need-returns-2
-returns-2 c = (ensure-present _ _ _ (amount-is (c .before .before)) (c .if1 .taken), tt)
-
-returns-3 : tie.Need-returns-3
-returns-3 c =
-    let amount = amount-is (c .before .before) in
-    (ensure-opens _ _ _ amount (c .if1 .left), account-sound _ _ _ _ _ (omega arith) (natural-small _ _ amount (omega arith)) (search needs))
+returns-2 c =
+    let s = c .before .before .before in (
+      ensure-opens (s .args .seat) _ _ refl (is-missing (s .args .seat) (told (c .before .before .tenant-of .ensures) (c .enum-told .given .1))),
+      account-sound _ _ _ _ _ (omega arith) (s .pre .1) (s .pre .0 .limit),
+    )
 
 pub ensure-spec : {M : Type 1} → statement M
-ensure-spec = tie.close (tie.spec (λ c κs. search needs) (λ c. search needs) (λ c. search needs) returns returns-2 returns-3)
+ensure-spec = tie.close (tie.spec (λ c κs. search needs) (λ c. search needs) (λ c. search needs) returns returns-2)

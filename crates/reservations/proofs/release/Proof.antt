@@ -95,11 +95,11 @@ returns-2 c L r =
 
 -- ── the reservation ends ───────────────────────────────────────────────────────────────────────
 
-ending : (c : tie.After-known-told2) → Decides (c .before .before .before) (releasing.Returned (c .before .decided .given .0 .0))
-ending c = told (c .before .before .before) _ (c .before .decided .given .1)
+ending : (c : tie.After-known-told2) → Decides (c .before .before .before) (releasing.Returned (c .before .returned .given .0 .0))
+ending c = told (c .before .before .before) _ (c .before .returned .given .1)
 
-returned-sound : (c : tie.After-known-told2) → SeatSound (c .before .decided .given .0 .0)
-returned-sound c = subst ReleasingSound (c .before .decided .given .1) (c .before .before .before .release .ensures .1)
+returned-sound : (c : tie.After-known-told2) → SeatSound (c .before .returned .given .0 .0)
+returned-sound c = subst ReleasingSound (c .before .returned .given .1) (c .before .before .before .release .ensures .1)
 
 end-requires : tie.Need-end-requires
 end-requires c κs =
@@ -107,6 +107,9 @@ end-requires c κs =
     let s = start d in
     let allowed = end-allowed (room s) (ledger s) (is-room s) (operation s) (id s) (at (place d)) (d .before .before .before .due-at .result) _ (ending (c .before) (ledger s) (is-room s)) in
     (allowed .0, omega (arith, allowed .1), omega (arith, allowed .2))
+
+amount-requires : tie.Need-amount-requires
+amount-requires c κs = seat-small _ (returned-sound (c .before .before .before .before)) .remaining
 
 -- what was reserved is part of an account
 amount-requires-2 : tie.Need-amount-requires-2
@@ -137,10 +140,10 @@ release-spec =
     release-requires
     (λ c. search needs)
     (λ c. search needs)
-    end-requires
-    (λ c κs. seat-small _ (returned-sound (c .before .before .before .before)) .remaining)
-    amount-requires-2
     (λ c. search needs)
     returns-2
+    end-requires
+    amount-requires
+    amount-requires-2
     (λ c. search needs)
     returns-3)
