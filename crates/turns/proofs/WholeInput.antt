@@ -17,7 +17,7 @@ use Rattle.soundness.proofs.Deciding.{less-or-not}
 use Rattle.frames.specs.Answering.{IsLent}
 use Rattle.lines.specs.Batching.{IsLine, withFeeds, AnswersLine}
 use Rattle.lines.proofs.Decoded.{too-long}
-use Rattle.turns.specs.Turns.{Reads, Answers, Ends}
+use Rattle.turns.specs.Turns.{passedOver, Reads, Answers, Ends}
 use Rattle.turns.proofs.Answering.{line-written, line-lent}
 
 -- ── the lines of the whole input ───────────────────────────────────────────────────────────────
@@ -48,7 +48,7 @@ module _ (capacity : ℕ) where
   whole-rest (c ∷ cs) h = ap (λ line. line ∷ []) (take-all capacity (c ∷ cs) h)
 
   -- what was handed on, and what is held, are the lines of all that was read
-  all-handed : {read : List ℕ} {handed-on : List (List ℕ)} (passing : Bool) {held : List ℕ} → 0 < capacity → length held ≤ capacity → IsLine held
+  pub all-handed : {read : List ℕ} {handed-on : List (List ℕ)} (passing : Bool) {held : List ℕ} → 0 < capacity → length held ≤ capacity → IsLine held
       → Reads capacity read handed-on passing held → handed-on ++ counted (held ∷ []) ≡ map (take capacity) (linesOf read)
   all-handed false {held} some short is-line r =
       let last = counted (r .rest ∷ []) in
@@ -92,6 +92,11 @@ module _ (capacity : ℕ) (long : longestLine < capacity) where
   lent-cut l [] = refl
   lent-cut l (line ∷ lines) =
       ap (λ (b : Answered). lentAfter (b .lent) (map (take capacity) lines)) (answer-cut l line) ∙ lent-cut (answerToLine l line .lent) lines
+
+  -- so far: the answers to the whole lines of all that was read, and to the one that is passed over
+  pub so-far : {l : Lent} {read written memory held : List ℕ} {passing : Bool} (a : Answers l capacity read written memory passing held)
+      → written ≡ answersToLines l (a .reads .lines ++ passedOver passing (a .reads .rest))
+  so-far {l} {passing = passing} a = a .answered ∙ ap (answersToLines l) (a .reads .are-handed-on) ∙ answers-cut l (a .reads .lines ++ passedOver passing (a .reads .rest))
 
   -- ── the whole output ─────────────────────────────────────────────────────────────────────────
 

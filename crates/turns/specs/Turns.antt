@@ -93,5 +93,5 @@ PromisesLast passing held input before after output size =
     → Ends l read (written ++ take size output) after
 
 -- memory that is no sound ledger's room keeps its bytes
-abbrev pub Untouched : (before after : List ℕ) → Type 0
-Untouched before after = IsLent before unsound → after ≡ before
+abbrev pub KeepsUnsound : (before after : List ℕ) → Type 0
+KeepsUnsound before after = IsLent before unsound → after ≡ before

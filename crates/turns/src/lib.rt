@@ -13,7 +13,7 @@ ghost use Rattle.records.specs.Rows.{row};
 ghost use Rattle.frames.specs.Answering.{OfLent};
 ghost use Rattle.lines.specs.Batching.{IsLine, AnswersLine};
 ghost use Rattle.turns.specs.declared.Held.{Held};
-ghost use Rattle.turns.specs.Turns.{heldIn, Within, TakesIn, MakesRoom, longestAnswerLine, PromisesTurn, TurnWithin, PromisesLast, Untouched};
+ghost use Rattle.turns.specs.Turns.{heldIn, Within, TakesIn, MakesRoom, longestAnswerLine, PromisesTurn, TurnWithin, PromisesLast, KeepsUnsound};
 
 // What was read and not answered yet stands in the lent input between these two. While the rest of a line that was too long is passed over, that is nothing.
 pub struct Held {
@@ -135,7 +135,7 @@ fn settle(room: &mut [u8], input: &mut [u8], from: usize, end: usize, output: &m
     ensures within { λ r. ⌜ ((h : Held) → TurnWithin h (now (input .exit)) (now (output .exit)) r) ⌝ }
     ensures answers { λ r. ⌜ (IsLine (row (end - from) from (now (input .entry))) → PromisesTurn false (row (end - from) from (now (input .entry)))
         (now (room .entry)) (now (room .exit)) (now (input .exit)) (now (output .exit)) r) ⌝ }
-    ensures untouched { λ _. ⌜ Untouched (now (room .entry)) (now (room .exit)) ⌝ }
+    ensures unsound { λ _. ⌜ KeepsUnsound (now (room .entry)) (now (room .exit)) ⌝ }
 {
     let held = make_room(input, from, end);
     if held.passing {
@@ -159,7 +159,7 @@ pub fn answer(room: &mut [u8], input: &mut [u8], held: Held, output: &mut [u8]) 
     ensures within { λ r. ⌜ TurnWithin held (now (input .exit)) (now (output .exit)) r ⌝ }
     ensures answers { λ r. ⌜ PromisesTurn (held .passing) (heldIn (now (input .entry)) held)
         (now (room .entry)) (now (room .exit)) (now (input .exit)) (now (output .exit)) r ⌝ }
-    ensures untouched { λ _. ⌜ Untouched (now (room .entry)) (now (room .exit)) ⌝ }
+    ensures unsound { λ _. ⌜ KeepsUnsound (now (room .entry)) (now (room .exit)) ⌝ }
 {
     let from = held.from;
     let end = held.end;
@@ -195,7 +195,7 @@ pub fn last(room: &mut [u8], input: &[u8], held: Held, output: &mut [u8]) -> usi
     ensures within { λ r. ⌜ r ≤ length (now (output .exit)) ⌝ }
     ensures answers { λ r. ⌜ PromisesLast (held .passing) (heldIn (now (input .entry)) held) (now (input .entry))
         (now (room .entry)) (now (room .exit)) (now (output .exit)) r ⌝ }
-    ensures untouched { λ _. ⌜ Untouched (now (room .entry)) (now (room .exit)) ⌝ }
+    ensures unsound { λ _. ⌜ KeepsUnsound (now (room .entry)) (now (room .exit)) ⌝ }
 {
     let from = held.from;
     let end = held.end;

@@ -61,6 +61,9 @@ returns-2 c =
       ),
     )
 
+settle-requires : tie.Need-settle-requires
+settle-requires c κs = let s = c .before .before .before .before .before .before .before .before .before .before .before .before .before .before .before .before .before .before in (s .pre .0 .0, s .pre .0 .1, s .pre .1, omega (arith, s .pre .2, c .before .before .before .before .before .before .output .given))
+
 module _ (c : tie.After-struct-known2) where
   abbrev start : tie.Start
   start = c .before .before .before .before .before .before .before .before .before .before .before .before .before .before .before .before
@@ -104,13 +107,13 @@ answer-spec =
     (λ c. search needs)
     (λ c. search needs)
     (λ c κs. search needs)
-    (λ c κs. search needs)
-    (λ c. search needs)
-    (λ c. search needs)
-    (λ c. search needs)
+    settle-requires
+    (λ c. c .before .before .before .before .before .room2 .given ∙ c .before .before .before .before .before .before .before .before .before .before .before .before .before .before .before .room .given)
+    (λ c. c .before .before .before .input2 .given)
+    (λ c. c .before .output2 .given ∙ c .before .before .before .before .before .before .before .before .before .before .before .before .before .output .given)
     returns-2
     (λ c. search needs)
+    (λ c. c .before .before .before .before .before .before .room .given)
     (λ c. search needs)
-    (λ c. search needs)
-    (λ c. search needs)
+    (λ c. c .before .before .before .before .output .given)
     returns-3)

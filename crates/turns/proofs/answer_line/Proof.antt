@@ -41,9 +41,9 @@ answer-line-spec =
     (λ c κs. search needs)
     (λ c. search needs)
     (λ c. search needs)
-    (λ c. search needs)
-    (λ c. search needs)
+    (λ c. c .before .before .before .before .before .before .room .given)
+    (λ c. c .before .before .before .before .output .given)
     returns
-    (λ c. search needs)
-    (λ c. search needs)
+    (λ c. c .before .before .before .before .before .room .given)
+    (λ c. c .before .before .before .output .given)
     returns-2)

@@ -82,11 +82,11 @@ pub settle-spec : {M : Type 1} → statement M
 settle-spec =
     tie.close
     (tie.spec
-    (λ c κs. search needs)
-    (λ c κs. search needs)
-    (λ c. search needs)
-    (λ c. search needs)
-    (λ c. search needs)
+    (λ c κs. let s = c .before .before .before .before in (s .pre .0, s .pre .1, s .pre .2))
+    (λ c κs. c .before .before .before .before .before .before .before .before .before .before .before .pre .3)
+    (λ c. c .before .before .before .room .given)
+    (λ c. c .before .before .before .before .before .before .before .before .before .before .input .given)
+    (λ c. c .before .output .given)
     returns
-    (λ c. search needs)
+    (λ c. c .before .before .input .given)
     returns-2)
