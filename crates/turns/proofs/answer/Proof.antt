@@ -9,6 +9,7 @@ use borrow.Author.Needs.{needs}
 use lib.ListN.{length, take}
 use Rattle.rules.specs.AnswerNumbers.{unsound}
 use Rattle.rules.specs.Frames.{lentAfter}
+use Rattle.rules.proofs.Tests.{true-false}
 use Rattle.records.specs.Rows.{row}
 use Rattle.frames.specs.Answering.{IsLent}
 use Rattle.turns.specs.Turns.{heldIn, Answers}
@@ -35,7 +36,7 @@ returns c =
     let s = c .before .before .before .before in
     let h = s .args .held in
     let none : h .end - h .from ≡ 0 = omega (arith, c .if1 .taken) in (
-      record { held = (omega arith, omega arith); written = omega arith; room-left = λ _. s .pre .1; further = λ e. absurd (let z : _≡_ {A = ℕ} 0 1 = cc in omega arith) },
+      record { held = (omega arith, omega arith); written = omega arith; room-left = λ _. s .pre .1; further = λ e. true-false refl e },
       (
         λ l read written a. record {
           answers = unwritten (subst (Answers l (length (input s)) read written (s .args .room .now) (h .passing)) (ap (λ n. row n (h .from) (input s)) none) a);
@@ -81,7 +82,7 @@ returns-3 c =
       record {
         held = (used-within c, s .pre .0 .1);
         written = omega (arith, batch .ensures .1 .1, batch .kept);
-        room-left = λ e. absurd (let z : _≡_ {A = ℕ} 0 1 = cc in omega arith);
+        room-left = λ e. true-false e refl;
         further = λ _. (omega (arith, c .before .if2 .left), refl);
       },
       (
@@ -92,7 +93,7 @@ returns-3 c =
                   subst (Answers l (length (input s)) read (written ++ text) (batch .last .0) false)
                   (part-shorter (h .from) (h .end) (b .used) (input s) (s .pre .0 .0) (s .pre .0 .1) (omega (arith, used-within c)))
                   (batched a (omega (arith, long s, s .pre .0 .1)) (batch .ensures .0 (lentAfter l (a .handed-on)) (a .lent)));
-              none-left = λ e. absurd (let z : _≡_ {A = ℕ} 0 1 = cc in omega arith);
+              none-left = λ e. true-false e refl;
             },
         λ is. batch .ensures .0 unsound is .untouched refl,
       ),

@@ -9,6 +9,7 @@ use borrow.Author.Needs.{needs}
 use lib.ListN.{length, take}
 use Rattle.rules.specs.AnswerNumbers.{unsound}
 use Rattle.rules.specs.Frames.{answersToLines, lentAfter}
+use Rattle.rules.proofs.Tests.{true-false}
 use Rattle.records.specs.Rows.{row}
 use Rattle.frames.specs.Answering.{IsLent}
 use Rattle.turns.specs.Turns.{heldIn, passedOver}
@@ -29,7 +30,7 @@ returns c =
         held = (made .ensures .0 .0, omega (arith, made .ensures .0 .1));
         written = omega (arith, call .ensures .0, call .kept);
         room-left = λ _. made .ensures .0 .1;
-        further = λ e. absurd (let z : _≡_ {A = ℕ} 0 1 = cc in omega arith);
+        further = λ e. true-false refl e;
       },
       (
         λ is-line l read written a.
@@ -60,7 +61,7 @@ returns-2 c =
         held = (made .ensures .0 .0, omega (arith, made .ensures .0 .1));
         written = omega arith;
         room-left = λ _. made .ensures .0 .1;
-        further = λ e. absurd (let z : _≡_ {A = ℕ} 0 1 = cc in omega arith);
+        further = λ e. true-false refl e;
       },
       (
         λ is-line l read written a.

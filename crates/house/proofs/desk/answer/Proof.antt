@@ -9,6 +9,7 @@ use borrow.Author.Needs.{needs}
 use borrow.Author.Tests.{not-true, not-false}
 use lib.ListN.{length}
 use lib.Seq.{length-take-le}
+use Rattle.rules.proofs.Tests.{true-false}
 use Rattle.turns.specs.Turns.{Within}
 use Rattle.house.proofs.desk.answer.Statement.{statement}
 use Rattle.house.proofs.desk.answer.Tie as tie
@@ -25,7 +26,7 @@ abbrev μ-loop : tie.MeasureT-loop
 μ-loop room₀ input₀ output₀ turn₀ room input output turn = stepsLeft (turn .done) (turn .held .from) (turn .held .end)
 
 loop-holds : tie.Need-loop-holds Inv-loop μ-loop
-loop-holds c = (refl, refl, refl, c .before .before .before .pre .0, λ e. absurd (let z : _≡_ {A = ℕ} 0 1 = cc in omega arith))
+loop-holds c = (refl, refl, refl, c .before .before .before .pre .0, λ e. true-false e refl)
 
 answer-requires : tie.Need-answer-requires Inv-loop μ-loop
 answer-requires c κs =
@@ -44,7 +45,7 @@ returns c = (c .stopped .ensures .0, omega (arith, c .stopped .ensures .1, c .be
 
 less : (done done-before : Bool) {from from-before end end-before : ℕ} → done-before ≡ false → (done ≡ false → (from-before < from) × (end ≡ end-before)) → from ≤ end
     → stepsLeft done from end < stepsLeft done-before from-before end-before
-less done true e further within = absurd (let z : _≡_ {A = ℕ} 0 1 = cc in omega arith)
+less done true e further within = true-false refl e
 less true false e further within = omega arith
 less false false e further within = let (more, same) = further refl in omega arith
 
