@@ -1,7 +1,7 @@
 -- The answers to the lines that a step hands on, behind those to all lines before: the rules' answers go line by line (`answers-append`), and so does the
 -- ledger (`lent-append`).
 use mathlib.Core.Path.{_≡_, refl, sym, subst, ap, _∙_}
-use mathlib.Core.Logic.{_⊎_, inl, inr, ⊎-elim}
+use mathlib.Core.Logic.{_⊎_, ⊎-elim}
 use mathlib.Core.Bool.{Bool, true, false}
 use mathlib.Core.List.{List, [], _∷_, _++_, append-nil}
 use mathlib.Core.Option.{Option}
@@ -15,7 +15,7 @@ use Rattle.rules.proofs.EveryLine.{answers-append, lent-append}
 use Rattle.soundness.proofs.Deciding.{less-or-not}
 use Rattle.frames.specs.Answering.{IsLent, OfLent}
 use Rattle.frames.proofs.Arms.{room-bounds}
-use Rattle.lines.specs.Batching.{IsLine, lineRoom, withFeeds, AnswersLine, NextTooLong, Batches}
+use Rattle.lines.specs.Batching.{IsLine, lineRoom, withFeeds, AnswersLine, Batches}
 use Rattle.lines.specs.declared.Progress.{Progress}
 use Rattle.turns.specs.Turns.{longestAnswerLine, Reads, Answers}
 use Rattle.turns.proofs.Reading.{nothing-read, none-held, handed}

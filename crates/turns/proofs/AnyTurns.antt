@@ -11,7 +11,7 @@ use Rattle.rules.specs.Frames.{longestLine, house}
 use Rattle.frames.specs.Answering.{IsLent}
 use Rattle.lines.specs.Batching.{IsLine}
 use Rattle.turns.specs.declared.Turn.{Turn}
-use Rattle.turns.specs.Turns.{heldIn, TakesIn, Answers, Answered, PromisesTurn, PromisesLast, Ends}
+use Rattle.turns.specs.Turns.{heldIn, TakesIn, Answers, PromisesTurn, PromisesLast}
 use Rattle.turns.proofs.Answering.{begins}
 
 -- the steps of a program over one lent input and one lent memory, each of them what `brought` or `answer` promises

@@ -1,7 +1,7 @@
 -- At the end of the input. Lines with their line feeds and a rest are just the lines that the rules count (`lines-are`), and a line cut short is answered as
 -- the whole of it is, where as much is left of it as no frame has (`answers-cut`); so what was written is the definition's whole output (`ends`).
 use mathlib.Core.Path.{_≡_, refl, sym, subst, ap, _∙_}
-use mathlib.Core.Logic.{inl, inr, ⊎-elim}
+use mathlib.Core.Logic.{⊎-elim}
 use mathlib.Core.Bool.{Bool, true, false}
 use mathlib.Core.List.{List, [], _∷_, _++_, map, map-append, append-assoc, append-nil}
 use Prim.Native.Nat.{ℕ, _≤_, _<_}

@@ -1,8 +1,6 @@
 -- `turns::answer_line`: the output has room for any answer (`has-room` of Answering.antt), so `lines::answer` gives one; it stands within the output whatever
 -- the memory is lent as (`of-any`).
 use mathlib.Core.Path.{_≡_, subst}
-use mathlib.Core.List.{List}
-use Prim.Native.Nat.{ℕ}
 use native.Mathlib.Omega.{arith}
 use borrow.Author.Needs.{needs}
 use lib.ListN.{length}

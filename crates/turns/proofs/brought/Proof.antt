@@ -1,9 +1,8 @@
 -- `turns::brought`: while a line is passed over nothing is held, and `pass_over` takes in what was read; else it is more of what is held (`read-on` of
 -- Reading.antt), as a longer part of the input (`part-longer` of Parts.antt).
-use mathlib.Core.Path.{_≡_, sym, subst, ap}
+use mathlib.Core.Path.{sym, subst}
 use mathlib.Core.Bool.{true, false}
-use mathlib.Core.List.{List, [], _++_}
-use Prim.Native.Nat.{ℕ}
+use mathlib.Core.List.{_++_}
 use native.Mathlib.Omega.{arith}
 use borrow.Author.Needs.{needs}
 use lib.ListN.{length}

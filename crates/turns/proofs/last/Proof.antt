@@ -1,6 +1,6 @@
 -- `turns::last`: nothing held is no line (`ends-at-feed` of WholeInput.antt); what is held is one, and its answer ends the output (`ends-in-line`).
 use mathlib.Core.Path.{_≡_, refl, ap}
-use mathlib.Core.List.{List, []}
+use mathlib.Core.List.{List}
 use Prim.Native.Nat.{ℕ, _-_, _≤_}
 use native.Mathlib.Omega.{arith}
 use borrow.Author.Needs.{needs}

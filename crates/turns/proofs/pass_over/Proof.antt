@@ -2,7 +2,7 @@
 -- (`passed` and `pass-on` of Reading.antt); what stands behind it is held (`behind-feed` of Parts.antt).
 use mathlib.Core.Path.{_≡_, sym, subst}
 use mathlib.Core.Bool.{false}
-use mathlib.Core.List.{List, _++_}
+use mathlib.Core.List.{_++_}
 use Prim.Native.Nat.{ℕ, _+_, _-_}
 use native.Mathlib.Omega.{arith}
 use borrow.Author.Needs.{needs}

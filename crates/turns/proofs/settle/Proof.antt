@@ -1,21 +1,24 @@
 -- `turns::settle`: `make_room` says what is held on; where the line that filled the input is handed on, its answer is the one line more (`further` of
 -- Answering.antt), and else there is none.
 use mathlib.Core.Path.{_≡_, refl, sym, subst, ap, _∙_}
-use mathlib.Core.Bool.{Bool, true, false}
+use mathlib.Core.Bool.{true}
 use mathlib.Core.List.{List, [], _∷_}
-use Prim.Native.Nat.{ℕ, _-_}
+use Prim.Native.Nat.{ℕ, _-_, _≤_, _<_}
 use native.Mathlib.Omega.{arith}
-use borrow.Author.Needs.{needs}
 use lib.ListN.{length, take}
 use Rattle.rules.specs.AnswerNumbers.{unsound}
 use Rattle.rules.specs.Frames.{answersToLines, lentAfter}
 use Rattle.rules.proofs.Tests.{true-false}
-use Rattle.records.specs.Rows.{row}
 use Rattle.frames.specs.Answering.{IsLent}
-use Rattle.turns.specs.Turns.{heldIn, passedOver}
+use Rattle.turns.specs.declared.Held.{Held}
+use Rattle.turns.specs.Turns.{heldIn, passedOver, TurnWithin}
 use Rattle.turns.proofs.Answering.{line-written, line-lent, further}
 use Rattle.turns.proofs.settle.Statement.{statement}
 use Rattle.turns.proofs.settle.Tie as tie
+
+done-within : (h : Held) (size : ℕ) (input output : List ℕ) → (h .from ≤ h .end) × (h .end < length input) → size ≤ length output
+    → (before : Held) → TurnWithin before input output (record { held = h; written = size; done = true })
+done-within h size input output (order, room) fits before = record { held = (order, omega arith); written = fits; room-left = λ _. room; further = λ e. true-false refl e }
 
 returns : tie.Need-returns
 returns c =
@@ -26,12 +29,7 @@ returns c =
     let input = made .last .0 in
     let after = call .last .0 in
     let text = take (call .result) (call .last .1 .1 .0) in (
-      λ _. record {
-        held = (made .ensures .0 .0, omega (arith, made .ensures .0 .1));
-        written = omega (arith, call .ensures .0, call .kept);
-        room-left = λ _. made .ensures .0 .1;
-        further = λ e. true-false refl e;
-      },
+      done-within h (call .result) input (call .last .1 .1 .0) (made .ensures .0) (omega (arith, call .ensures .0, call .kept)),
       (
         λ is-line l read written a.
             let lent = lentAfter l (a .handed-on) in
@@ -57,12 +55,7 @@ returns-2 c =
     let h = made .result in
     let input = made .last .0 in
     let room = s .args .room .now in (
-      λ _. record {
-        held = (made .ensures .0 .0, omega (arith, made .ensures .0 .1));
-        written = omega arith;
-        room-left = λ _. made .ensures .0 .1;
-        further = λ e. true-false refl e;
-      },
+      done-within h 0 input (s .args .output .now) (made .ensures .0) (omega arith),
       (
         λ is-line l read written a.
             let lent = lentAfter l (a .handed-on) in

@@ -1,6 +1,6 @@
 -- `turns::to_front`, by a loop whose invariant is `Moved` of Parts.antt: so many bytes are at the front, and those behind stand as they were.
 use mathlib.Core.Path.{_≡_, refl, ap, _∙_}
-use Prim.Native.Nat.{ℕ, _-_, _≤_}
+use Prim.Native.Nat.{_-_, _≤_}
 use native.Mathlib.Omega.{arith}
 use borrow.Author.Needs.{needs}
 use lib.ListN.{length, length-set}

@@ -1,7 +1,5 @@
 -- `house::desk::open`, by a loop whose invariant is that there is room to read into, as each turn promises; the turns count down.
 use mathlib.Core.Path.{_≡_}
-use Prim.Native.Nat.{ℕ}
-use native.Mathlib.Omega.{arith}
 use borrow.Author.Needs.{needs}
 use lib.ListN.{length}
 use Rattle.house.specs.Desk.{ReadyToRead}
