@@ -1,5 +1,6 @@
 -- A name by value: its length, and as many bytes as the longest name has, of which those past the length are zero.
 use mathlib.Core.Path.{_≡_}
+use mathlib.Core.Bool.{Bool, true, false}
 use mathlib.Core.List.{List, _++_}
 use Prim.Native.Nat.{ℕ, _-_, _≤_, Ordering, Ordering·lt, Ordering·eq, Ordering·gt}
 use lib.ListN.{length, getD, take, replicate}
@@ -13,6 +14,11 @@ abbrev pub orderingOf : Order → Ordering
 orderingOf Before = Ordering·lt
 orderingOf Same = Ordering·eq
 orderingOf After = Ordering·gt
+
+abbrev pub isBefore : Ordering → Bool
+isBefore Ordering·lt = true
+isBefore Ordering·eq = false
+isBefore Ordering·gt = false
 
 -- the bytes within the length
 abbrev pub spelled : Name → List ℕ

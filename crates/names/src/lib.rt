@@ -1,10 +1,11 @@
 // Names: compared by their bytes, kept by value, and written with their length in front.
-ghost use Prim.Native.Nat.{_+_, _≤_};
+ghost use Prim.Native.Nat.{_+_, _*_, _≤_, _<_};
 ghost use mathlib.Core.Path.{_≡_};
-ghost use lib.ListN.{length};
-ghost use Rattle.rules.specs.RoomAndSoundLedger.{order, same, longestName};
-ghost use Rattle.rules.specs.SnapshotsMigrationCertificates.{nameBytes};
-ghost use Rattle.names.specs.Names.{orderingOf, spelled, stored};
+ghost use lib.ListN.{length, take, drop};
+ghost use Rattle.rules.specs.Lists.{All};
+ghost use Rattle.rules.specs.RoomAndSoundLedger.{IsByte, order, same, longestName};
+ghost use Rattle.rules.specs.SnapshotsMigrationCertificates.{numberOf, nameBytes};
+ghost use Rattle.names.specs.Names.{orderingOf, isBefore, spelled, stored, IsStored};
 
 pub enum Order {
     Before,
@@ -59,14 +60,37 @@ pub fn is_same(left: &[u8], right: &[u8]) -> bool
     true
 }
 
-// A name that is kept, against a part of what was received.
-pub fn compare_name(stored: Name, part: &[u8]) -> Order
-    requires { ⌜ stored .length ≤ longestName ⌝ }
-    ensures { λ r. ⌜ orderingOf r ≡ order (spelled stored) (now (part .entry)) ⌝ }
+// Eight bytes of a name as a number, the highest first: a name has three such parts.
+fn word(name: Name, part: usize) -> u64
+    requires { ⌜ part < 3 ⌝ }
+    ensures { λ r. ⌜ r ≡ numberOf (take 8 (drop (8 * part) (name .bytes))) ⌝ }
 {
-    let end = stored.length as usize;
-    let bytes = stored.bytes;
-    compare(&bytes[..end], part)
+    let bytes = name.bytes;
+    let from = 8 * part;
+    let end = from + 8;
+    big_endian::read8(&bytes[from..end])
+}
+
+// Two names by value. Eight bytes with the highest first are in the order of their numbers; where all are the same, the bytes past the shorter name are
+// zeros of the longer.
+pub fn precedes(left: Name, right: Name) -> bool
+    requires stored { ⌜ IsStored left × IsStored right ⌝ }
+    requires bytes { ⌜ All IsByte (left .bytes) × All IsByte (right .bytes) ⌝ }
+    ensures { λ r. ⌜ r ≡ isBefore (order (spelled left) (spelled right)) ⌝ }
+{
+    let mut k = 0;
+    while k < 3 {
+        let before = word(left, k);
+        let here = word(right, k);
+        if before < here {
+            return true;
+        }
+        if here < before {
+            return false;
+        }
+        k += 1;
+    }
+    left.length < right.length
 }
 
 // The name that a part spells. What it does not fill stays zero, so that a name has one form.

@@ -10,7 +10,6 @@ pub mod Fresh
 pub mod Joined
 pub mod ClearBytes
 pub mod NameBytes
-pub mod Words
 pub mod Indices
 pub mod Owners
 pub mod Kept

@@ -208,8 +208,7 @@ fn name_sound(room: &[u8], i: usize) -> bool
     true
 }
 
-// The name at i comes after the one before it, if there is one. Eight bytes with the highest first are in the order of their numbers; where all
-// are the same, the bytes past the shorter name are zeros of the longer.
+// The name at i comes after the one before it, if there is one: both are loaded and compared by value.
 fn ascends(room: &[u8], i: usize) -> bool
     requires within { ⌜ placeStart i + placeSize ≤ length (now room) ⌝ }
     requires before { ⌜ (0 < i → IsStored (placeAt (i - 1) (now room) .name)) ⌝ }
@@ -219,19 +218,11 @@ fn ascends(room: &[u8], i: usize) -> bool
     if i == 0 {
         return true;
     }
-    let mut k = 0;
-    while k < 3 {
-        let before = big_endian::read8(name_part(room, i - 1, k));
-        let here = big_endian::read8(name_part(room, i, k));
-        if before < here {
-            return true;
-        }
-        if here < before {
-            return false;
-        }
-        k += 1;
-    }
-    name_length(room, i - 1) < name_length(room, i)
+    let before = records::load_place(room, i - 1);
+    let here = records::load_place(room, i);
+    let earlier = before.name;
+    let later = here.name;
+    names::precedes(earlier, later)
 }
 
 // "room not in use is zero". All bytes are joined and the result is asked once: a loop without a way out compiles to steps of many bytes.

@@ -9,13 +9,14 @@ use borrow.Author.Needs.{needs}
 use lib.ListN.{getD, List·getD-eq-default}
 use Rattle.rules.specs.Lists.{All}
 use Rattle.rules.specs.RoomAndSoundLedger.{IsByte, longestName}
+use Rattle.names.proofs.Words.{ClearFrom}
 use Rattle.numbers.specs.LittleEndian.{littleNumber}
 use Rattle.numbers.proofs.Bytes.{all-bytes}
 use Rattle.records.specs.Rows.{row}
 use Rattle.records.proofs.Fields.{row-bytes}
 use Rattle.soundness.specs.Facts.{Decides}
 use Rattle.soundness.specs.Steps.{placeAt}
-use Rattle.soundness.proofs.ClearBytes.{ClearFrom, small-clear, clear-small, part-clear, clear-part}
+use Rattle.soundness.proofs.ClearBytes.{small-clear, clear-small, part-clear, clear-part}
 use Rattle.soundness.proofs.Deciding.{accept, refuse, by-answer, refused, accepted, less-or-not}
 use Rattle.soundness.proofs.NameBytes.{name-at-bytes}
 use Rattle.soundness.proofs.Standing.{bytes-width}

@@ -1,27 +1,27 @@
 -- Names by their words: the order of two names is that of the big-endian numbers of their parts, the first that differ, and then of their lengths.
 use mathlib.Core.Path.{_≡_, refl, sym, ap, ap₂, _∙_, subst}
-use mathlib.Core.Logic.{⊎-elim}
+use mathlib.Core.Bool.{false}
 use mathlib.Core.List.{List, [], _∷_, _++_}
 use Prim.Native.Nat.{ℕ, zero, suc, _+_, _*_, _≤_, _<_, zero-le, suc-le-suc, compare, Ordering·lt, Ordering·eq}
 use native.Mathlib.Nat.{le-of-suc-le-suc, not-suc-le-zero}
 use native.Mathlib.Omega.{arith}
+use borrow.Author.Tests.{ltb-true, ltb-false}
 use lib.Dec.{ltb}
 use lib.ListN.{length, getD, take, drop, length-drop}
-use lib.Seq.{take-add}
+use lib.Seq.{take-add, length-take-le}
 use Rattle.rules.specs.Lists.{All}
 use Rattle.rules.specs.RoomAndSoundLedger.{IsByte, order, thenBy}
 use Rattle.rules.specs.SnapshotsMigrationCertificates.{bytesOf, numberFrom, numberOf}
-use Rattle.rules.proofs.Tests.{by-order}
+use Rattle.rules.proofs.Tests.{by-bool, by-order}
 use Rattle.rules.proofs.Names.{compare-lt, compare-eq, compare-gt, compare-self, order-self, order-trans}
 use Rattle.rules.proofs.Numbers.{bytes-of-number}
+use Rattle.numbers.proofs.Bytes.{all-take, all-drop}
 use Rattle.names.specs.declared.Name.{Name}
-use Rattle.names.specs.Names.{spelled, IsStored}
-use Rattle.records.specs.Rows.{row}
-use Rattle.records.proofs.Rows.{row-length}
-use Rattle.records.proofs.Fields.{row-bytes}
-use Rattle.soundness.specs.Facts.{Decides}
-use Rattle.soundness.proofs.Deciding.{less-or-not, by-less, by-answer}
-use Rattle.soundness.proofs.ClearBytes.{ClearFrom}
+use Rattle.names.specs.Names.{isBefore, spelled, IsStored}
+
+-- zeros from a byte on
+abbrev pub ClearFrom : (n : ℕ) → List ℕ → Type 0
+ClearFrom n xs = (i : ℕ) → n ≤ i → getD xs i 0 ≡ 0
 
 -- ── numbers and order ──────────────────────────────────────────────────────────────────────────
 
@@ -67,20 +67,29 @@ order-front (suc k) (x ∷ xs) (y ∷ ys) l h =
     by-order (λ o. thenBy o (order (take k xs) (take k ys)) ≡ Ordering·lt → thenBy o (order xs ys) ≡ Ordering·lt) (compare x y)
     (λ _ t. refl) (λ _ t. order-front k xs ys (omega arith) t) (λ _ t. cc) h
 
+abbrev pub part : (k j : ℕ) → List ℕ → List ℕ
+part k j xs = take k (drop j xs)
+
+pub part-length : (k j : ℕ) (xs : List ℕ) → j + k ≤ length xs → length (part k j xs) ≡ k
+part-length k j xs h = length-take-le k (drop j xs) (rw length-drop (omega arith))
+
+part-bytes : (k j : ℕ) (xs : List ℕ) → All IsByte xs → All IsByte (part k j xs)
+part-bytes k j xs h = all-take IsByte k (drop j xs) (all-drop IsByte j xs h)
+
 -- two lists of bytes and a part of them
 module _ (k j : ℕ) (xs ys : List ℕ) (bx : All IsByte xs) (by : All IsByte ys) (lx : j + k ≤ length xs) (ly : j + k ≤ length ys) (alike : take j xs ≡ take j ys) where
-  same-width : length (row k j xs) ≡ length (row k j ys)
-  same-width = row-length k j xs lx ∙ sym (row-length k j ys ly)
+  same-width : length (part k j xs) ≡ length (part k j ys)
+  same-width = part-length k j xs lx ∙ sym (part-length k j ys ly)
 
-  pub part-order : numberOf (row k j xs) < numberOf (row k j ys) → order xs ys ≡ Ordering·lt
+  pub part-order : numberOf (part k j xs) < numberOf (part k j ys) → order xs ys ≡ Ordering·lt
   part-order h =
       order-rest j xs ys alike (order-front k (drop j xs) (drop j ys) (rw length-drop (omega arith))
-      (number-order (row k j xs) (row k j ys) 0 same-width (row-bytes k j xs bx) (row-bytes k j ys by) h))
+      (number-order (part k j xs) (part k j ys) 0 same-width (part-bytes k j xs bx) (part-bytes k j ys by) h))
 
-  pub part-same : numberOf (row k j xs) ≡ numberOf (row k j ys) → take (j + k) xs ≡ take (j + k) ys
+  pub part-same : numberOf (part k j xs) ≡ numberOf (part k j ys) → take (j + k) xs ≡ take (j + k) ys
   part-same h =
-      let e : row k j xs ≡ row k j ys =
-      sym (bytes-of-number (row k j xs) (row-bytes k j xs bx)) ∙ ap₂ bytesOf same-width h ∙ bytes-of-number (row k j ys) (row-bytes k j ys by) in
+      let e : part k j xs ≡ part k j ys =
+      sym (bytes-of-number (part k j xs) (part-bytes k j xs bx)) ∙ ap₂ bytesOf same-width h ∙ bytes-of-number (part k j ys) (part-bytes k j ys by) in
       take-add j k xs ∙ ap₂ _++_ alike e ∙ sym (take-add j k ys)
 
 -- ── lengths and order ──────────────────────────────────────────────────────────────────────────
@@ -129,6 +138,10 @@ pub not-both : (a b : List ℕ) → order a b ≡ Ordering·lt → order b a ≡
 not-both a b h k =
     lt-only (sym (order-self a) ∙ order-trans a b a h k)
 
+-- what comes after is not before
+pub not-before : (a b : List ℕ) → order b a ≡ Ordering·lt → false ≡ isBefore (order a b)
+not-before a b h = by-order (λ o. false ≡ isBefore o) (order a b) (λ e. absurd (not-both a b e h)) (λ _. refl) (λ _. refl)
+
 -- ── names ──────────────────────────────────────────────────────────────────────────────────────
 
 -- what the words of two names' bytes say, where those before them are the same
@@ -140,7 +153,7 @@ pub record Compared (k before here : ℕ) (xs ys : List ℕ) : Type 0 where
 module _ (p q : Name) (sp : IsStored p) (sq : IsStored q) where
   pub compared :
       (k before here : ℕ) → All IsByte (p .bytes) → All IsByte (q .bytes) → k < 3 → take (8 * k) (p .bytes) ≡ take (8 * k) (q .bytes)
-      → before ≡ numberOf (row 8 (8 * k) (p .bytes)) → here ≡ numberOf (row 8 (8 * k) (q .bytes)) → Compared k before here (p .bytes) (q .bytes)
+      → before ≡ numberOf (part 8 (8 * k) (p .bytes)) → here ≡ numberOf (part 8 (8 * k) (q .bytes)) → Compared k before here (p .bytes) (q .bytes)
   compared k before here bp bq third alike eb eh =
       let e : 8 * k + 8 ≡ 8 * (k + 1) = omega arith in
       let lp : 8 * k + 8 ≤ length (p .bytes) = omega (arith, sp .width) in
@@ -155,17 +168,14 @@ module _ (p q : Name) (sp : IsStored p) (sq : IsStored q) where
   names-before = names-order (p .bytes) (q .bytes) (p .length) (q .length) (sp .width ∙ sym (sq .width)) (sp .clear) (sq .clear)
 
   -- names of the same bytes are in the order of their lengths
-  pub by-lengths : p .bytes ≡ q .bytes → Decides (order (spelled p) (spelled q) ≡ Ordering·lt) (ltb (p .length) (q .length))
+  pub by-lengths : p .bytes ≡ q .bytes → ltb (p .length) (q .length) ≡ isBefore (order (spelled p) (spelled q))
   by-lengths e =
       let xs = p .bytes in
       let n = p .length in
       let m = q .length in
-      by-answer {P = order (take n xs) (take m xs) ≡ Ordering·lt}
-      (by-less n m
-      (λ h. longer-order xs n m h (omega (arith, sp .width, sq .fits)))
-      (λ o. ⊎-elim (λ h. h) (λ h. absurd (⊎-elim
-      (λ l. not-both (take n xs) (take m xs) o (longer-order xs m n l (omega (arith, sp .width, sp .fits))))
-      (λ l. let z : n ≡ m = omega arith in lt-only (sym (order-self (take m xs)) ∙ ap (λ j. order (take j xs) (take m xs)) (sym z) ∙ o))
-      (less-or-not m n))) (less-or-not n m)))
-      (subst (λ ys. order (take n xs) (take m ys) ≡ Ordering·lt) e)
-      (subst (λ ys. order (take n xs) (take m ys) ≡ Ordering·lt) (sym e))
+      subst (λ ys. ltb n m ≡ isBefore (order (take n xs) (take m ys))) e
+      (by-bool (λ b. b ≡ isBefore (order (take n xs) (take m xs))) (ltb n m)
+      (λ t. sym (ap isBefore (longer-order xs n m (ltb-true n m t) (omega (arith, sp .width, sq .fits)))))
+      (λ t. by-bool (λ _. false ≡ isBefore (order (take n xs) (take m xs))) (ltb m n)
+      (λ u. not-before (take n xs) (take m xs) (longer-order xs m n (ltb-true m n u) (omega (arith, sp .width, sp .fits))))
+      (λ u. let z : m ≡ n = omega (arith, ltb-false n m t, ltb-false m n u) in sym (ap (λ j. isBefore (order (take n xs) (take j xs))) z ∙ ap isBefore (order-self (take n xs))))))
