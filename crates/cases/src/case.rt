@@ -1,5 +1,4 @@
 // Line after line, and what each is answered.
-use crate::calls;
 use crate::lent;
 use crate::lent::Lent;
 use answer_bytes::LONGEST_OTHER_ANSWER;
@@ -146,11 +145,11 @@ fn account_answered(
     let end = pair.end;
     let last = pair.last;
     let mut answer = [0u8; LONGEST_OTHER_ANSWER];
-    let size = calls::change(operation, &rest[0..end], numbers, memory, &mut answer);
+    let size = case_calls::change(operation, &rest[0..end], numbers, memory, &mut answer);
     if shown::answered(line, &answer, size, true) {
         return true;
     }
-    let size = calls::read(operation, &rest[last..], memory, &mut answer);
+    let size = case_calls::read(operation, &rest[last..], memory, &mut answer);
     shown::answered(line, &answer, size, true)
 }
 
@@ -163,7 +162,7 @@ fn snapshot_answered(
     output: &mut [u8],
 ) -> bool {
     let mut answer = [0u8; LONGEST_OTHER_ANSWER];
-    let size = calls::judge(operation, numbers, memory, supplied, output, &mut answer);
+    let size = case_calls::judge(operation, numbers, memory, supplied, output, &mut answer);
     shown::answered(line, &answer, size, false)
 }
 

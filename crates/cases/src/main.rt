@@ -29,7 +29,6 @@
 //   batch SIZE                           the supplied bytes come in pieces of this size, and what a batch leaves comes again with the next
 //
 // Any other line, or one with a number missing or out of range, is written behind `?? `.
-mod calls;
 mod case;
 mod lent;
 
