@@ -1,6 +1,6 @@
-//! A ledger opened; a courier booked, a bag delivered, another found on the belt. cargo run --example first
+//! A ledger opened; a courier booked, a bag delivered, another found on the belt; and a line for the log. cargo run --example first
 
-use zatovola::{Ledger, Microcents, Refusal};
+use zatovola::{Answer, Ledger, Microcents, Operation, Refusal};
 
 const CENT: i64 = 1_000_000;
 
@@ -34,5 +34,12 @@ fn main() -> Result<(), Refusal> {
     for row in snapshot.rows() {
         println!("{}: {:.2} of {:.2} left", String::from_utf8_lossy(&row.name.0), euros(row.remaining), euros(row.initial));
     }
+
+    // what another worker would send for a booking, and its answer as the log keeps it
+    let reserve = Operation::Reserve { name: b"TP", cost: Microcents(4_500 * CENT) };
+    let answer = ledger.reserve(b"TP", Microcents(4_500 * CENT)).map_or_else(Answer::Refused, Answer::Reserved);
+    let (sent, kept) = (reserve.line()?, answer.line(&reserve)?);
+    println!("> {}\n< {}", String::from_utf8_lossy(&sent), String::from_utf8_lossy(&kept));
+    assert_eq!(Answer::of_line(&reserve, &kept)?, answer);
     Ok(())
 }

@@ -7,7 +7,7 @@ use std::collections::HashMap;
 use zatovola::{Identifier, Ledger, Microcents, Refusal, Row};
 
 /// What the desk recorded: a time, an airline, what was asked, and its numbers. A booking is named by its number among the airline's own.
-const NIGHT: &str = include_str!("night.txt");
+pub const NIGHT: &str = include_str!("night.txt");
 
 const PARTITIONS: [[&str; 3]; 4] = [["AF", "BA", "KL"], ["LH", "LX", "OS"], ["TP", "UX", "IB"], ["SK", "AY", "DY"]];
 /// Two airlines of one partition, whose messages after the rebalance come in the other order.
@@ -18,13 +18,13 @@ const SETTLED: usize = 2;
 const LIVE: usize = 1;
 
 #[derive(Clone, Debug, PartialEq)]
-struct Message {
-    airline: String,
-    asked: String,
-    numbers: Vec<i64>,
+pub struct Message {
+    pub airline: String,
+    pub asked: String,
+    pub numbers: Vec<i64>,
 }
 
-fn message(line: &str) -> Message {
+pub fn message(line: &str) -> Message {
     let words: Vec<&str> = line.split(' ').collect();
     let numbers = words[3..].iter().map(|w| w.parse().expect("a number")).collect();
     Message { airline: words[1].to_owned(), asked: words[2].to_owned(), numbers }

@@ -2,7 +2,7 @@
 //!
 //! A [`Ledger`] owns its room. Every operation of document 01 is a method; a refusal is a [`Refusal`] with the paper's number, name and values, and changes no
 //! balance. The nine reads are methods too, and change nothing. Each single call asks whether the whole room is a sound ledger; [`Ledger::batch`] asks once for
-//! many lines.
+//! many lines. An [`Operation`] writes its line or bytes, and an [`Answer`] is written and read as the answer to one.
 //!
 //! ```
 //! use zatovola::{Ledger, Microcents};
@@ -17,25 +17,30 @@
 //! ```
 
 mod answer;
-mod frame;
 mod interface;
+mod operation;
 mod refusal;
 mod snapshot;
 
+pub use answer::{Answer, Booking, Certificate, ConservationProof, Settled, ToppedUp};
+pub use operation::Operation;
 pub use refusal::Refusal;
 pub use snapshot::{Row, Snapshot};
 
-use answer::Values;
-use frame::Frame;
-
-/// The longest answer to a snapshot or a migration, in bytes.
-const LONGEST_ANSWER: usize = 14_611;
-/// The longest answer to any other frame.
-const LONGEST_OTHER_ANSWER: usize = 51;
+use answer::{Numbers, LONGEST_ANSWER, LONGEST_OTHER_ANSWER};
+use operation::LONGEST_WITHOUT_SNAPSHOT;
+use refusal::told;
 
 /// An amount: 1,000,000 to a cent.
 #[derive(Clone, Copy, Debug, Default, PartialEq, Eq, PartialOrd, Ord)]
 pub struct Microcents(pub i64);
+
+impl Microcents {
+    /// In two's complement.
+    fn word(self) -> u64 {
+        self.0 as u64
+    }
+}
 
 /// A reservation's number.
 #[derive(Clone, Copy, Debug, PartialEq, Eq, PartialOrd, Ord, Hash)]
@@ -44,51 +49,6 @@ pub struct Identifier(pub u64);
 /// An airline's name as an answer carries it: at most 24 bytes, of any kind.
 #[derive(Clone, Debug, PartialEq, Eq, PartialOrd, Ord, Hash)]
 pub struct Name(pub Vec<u8>);
-
-/// What a top-up came to.
-#[derive(Clone, Copy, Debug, PartialEq, Eq)]
-pub struct ToppedUp {
-    pub amount: Microcents,
-    pub initial: Microcents,
-    pub remaining: Microcents,
-}
-
-/// A granted reservation.
-#[derive(Clone, Copy, Debug, PartialEq, Eq)]
-pub struct Booking {
-    pub remaining: Microcents,
-    pub id: Identifier,
-}
-
-/// A delivery paid, or a booking given back: what remains, and the fare or the amount returned.
-#[derive(Clone, Copy, Debug, PartialEq, Eq)]
-pub struct Settled {
-    pub remaining: Microcents,
-    pub amount: Microcents,
-}
-
-/// A certificate, of a ledger or of a supplied snapshot.
-#[derive(Clone, Copy, Debug, PartialEq, Eq)]
-pub struct Certificate {
-    pub version: u64,
-    pub rows: u64,
-    pub active: u64,
-    pub balanced: bool,
-    pub initial_total: Microcents,
-    pub committed_total: Microcents,
-    pub representable: bool,
-    pub since: Microcents,
-}
-
-/// A conservation proof.
-#[derive(Clone, Copy, Debug, PartialEq, Eq)]
-pub struct ConservationProof {
-    pub version: u64,
-    pub accounts: u64,
-    pub active: u64,
-    pub initial_total: Microcents,
-    pub committed_total: Microcents,
-}
 
 /// How far a batch came.
 #[derive(Clone, Copy, Debug, PartialEq, Eq)]
@@ -133,31 +93,31 @@ impl Ledger {
 
     /// Opens an account with this amount prepaid; an existing one is left as it is.
     pub fn ensure(&mut self, name: &[u8], amount: Microcents) -> Result<(), Refusal> {
-        self.ask(&Frame::named(1, name, amount), |_| ())
+        self.ask(Operation::Ensure { name, amount }, |_| ())
     }
 
     pub fn top_up(&mut self, name: &[u8], amount: Microcents) -> Result<ToppedUp, Refusal> {
-        self.ask(&Frame::named(2, name, amount), |v| ToppedUp { amount: v.amount(), initial: v.amount(), remaining: v.amount() })
+        self.ask(Operation::TopUp { name, amount }, |answer| answer.topped_up())
     }
 
     /// The most that may be reserved at a time; 0 removes the limit.
     pub fn limit(&mut self, name: &[u8], amount: Microcents) -> Result<(), Refusal> {
-        self.ask(&Frame::named(3, name, amount), |_| ())
+        self.ask(Operation::Limit { name, amount }, |_| ())
     }
 
     /// A booking: its cost is set aside.
     pub fn reserve(&mut self, name: &[u8], cost: Microcents) -> Result<Booking, Refusal> {
-        self.ask(&Frame::named(4, name, cost), |v| Booking { remaining: v.amount(), id: Identifier(v.word()) })
+        self.ask(Operation::Reserve { name, cost }, |answer| answer.booking())
     }
 
     /// A delivery: the booking ends and the real fare is paid.
     pub fn commit(&mut self, id: Identifier, actual: Microcents) -> Result<Settled, Refusal> {
-        self.ask(&Frame::settlement(5, id, Some(actual)), |v| Settled { remaining: v.amount(), amount: v.amount() })
+        self.ask(Operation::Commit { id, actual }, |answer| answer.settled())
     }
 
     /// A bag found on the belt: the booking ends and its amount comes back.
     pub fn release(&mut self, id: Identifier) -> Result<Settled, Refusal> {
-        self.ask(&Frame::settlement(6, id, None), |v| Settled { remaining: v.amount(), amount: v.amount() })
+        self.ask(Operation::Release { id }, |answer| answer.settled())
     }
 
     /// What an airline has left to reserve. Like every read it changes nothing, and draws no id as a snapshot does.
@@ -203,31 +163,25 @@ impl Ledger {
     }
 
     pub fn snapshot(&mut self) -> Result<Snapshot, Refusal> {
-        answered(&mut self.room, &[7], &mut vec![0; LONGEST_ANSWER], |v| Snapshot::of(v.rest()))
+        asked(&mut self.room, Operation::Snapshot, &mut vec![0; LONGEST_ANSWER], |answer| answer.snapshot())
     }
 
     /// All or nothing: the snapshot's accounts take the place of what the ledger held; reservations and limits are gone.
     pub fn restore(&mut self, snapshot: &[u8]) -> Result<(), Refusal> {
-        self.ask(&frame::on_snapshot(8, None, snapshot), |_| ())
+        asked_with_snapshot(&mut self.room, Operation::Restore { snapshot }, &mut [0; LONGEST_OTHER_ANSWER], |_| ())
     }
 
     /// As [`Ledger::restore`], and it says of a version of older days that it wants a migration.
     pub fn recovery_restore(&mut self, snapshot: &[u8]) -> Result<(), Refusal> {
-        self.ask(&frame::on_snapshot(9, None, snapshot), |_| ())
+        asked_with_snapshot(&mut self.room, Operation::RecoveryRestore { snapshot }, &mut [0; LONGEST_OTHER_ANSWER], |_| ())
     }
 
     pub fn certificate(&mut self) -> Result<Certificate, Refusal> {
-        self.ask(&[11], certificate)
+        self.ask(Operation::Certificate, |answer| answer.certificate())
     }
 
     pub fn conservation_proof(&mut self) -> Result<ConservationProof, Refusal> {
-        self.ask(&[13], |v| ConservationProof {
-            version: v.word(),
-            accounts: v.word(),
-            active: v.word(),
-            initial_total: v.amount(),
-            committed_total: v.amount(),
-        })
+        self.ask(Operation::ConservationProof, |answer| answer.conservation_proof())
     }
 
     /// Any bytes as a frame, to its answer's bytes: how many were written, or none where the output is shorter than the longest answer to this frame. More bytes
@@ -242,47 +196,55 @@ impl Ledger {
         Progress { used, written }
     }
 
-    fn ask<T>(&mut self, frame: &[u8], done: impl FnOnce(&mut Values) -> T) -> Result<T, Refusal> {
-        answered(&mut self.room, frame, &mut [0; LONGEST_OTHER_ANSWER], done)
+    /// An operation that neither takes nor gives a snapshot.
+    fn ask<T>(&mut self, operation: Operation, done: impl FnOnce(&Numbers) -> T) -> Result<T, Refusal> {
+        asked(&mut self.room, operation, &mut [0; LONGEST_OTHER_ANSWER], done)
     }
 }
 
 /// A snapshot of older days, made recovery-aware with this fence.
 pub fn migrate(snapshot: &[u8], fence: u64) -> Result<Snapshot, Refusal> {
-    answered(&mut [], &frame::on_snapshot(10, Some(fence), snapshot), &mut vec![0; LONGEST_ANSWER], |v| Snapshot::of(v.rest()))
+    asked_with_snapshot(&mut [], Operation::Migrate { snapshot, fence }, &mut vec![0; LONGEST_ANSWER], |answer| answer.snapshot())
 }
 
 pub fn certificate_of_snapshot(snapshot: &[u8], since: Microcents) -> Result<Certificate, Refusal> {
-    answered(&mut [], &frame::on_snapshot(12, Some(since.0 as u64), snapshot), &mut [0; LONGEST_OTHER_ANSWER], certificate)
+    asked_with_snapshot(&mut [], Operation::CertificateOfSnapshot { snapshot, since }, &mut [0; LONGEST_OTHER_ANSWER], |answer| answer.certificate())
 }
 
 /// Done where every row of the snapshot is balanced.
 pub fn conservation_status(snapshot: &[u8]) -> Result<(), Refusal> {
-    answered(&mut [], &frame::on_snapshot(14, None, snapshot), &mut [0; LONGEST_OTHER_ANSWER], |_| ())
+    asked_with_snapshot(&mut [], Operation::ConservationStatus { snapshot }, &mut [0; LONGEST_OTHER_ANSWER], |_| ())
 }
 
-fn answered<T>(room: &mut [u8], frame: &[u8], output: &mut [u8], done: impl FnOnce(&mut Values) -> T) -> Result<T, Refusal> {
+/// An operation that takes no snapshot: its bytes stay on the stack. The writer refuses a long name with 19 before the room is looked at, and 24 would come first; but a
+/// ledger's room is always sound: it was made or asked, and none but the archive has written to it.
+fn asked<T>(room: &mut [u8], operation: Operation, output: &mut [u8], done: impl FnOnce(&Numbers) -> T) -> Result<T, Refusal> {
+    let mut frame = [0; LONGEST_WITHOUT_SNAPSHOT];
+    let size = operation.write_bytes(&mut frame)?;
+    answered(room, operation, &frame[..size], output, done)
+}
+
+/// An operation that takes a snapshot, with 19 and 24 in the order told above.
+fn asked_with_snapshot<T>(
+    room: &mut [u8],
+    operation: Operation,
+    output: &mut [u8],
+    done: impl FnOnce(&Numbers) -> T,
+) -> Result<T, Refusal> {
+    answered(room, operation, &operation.bytes()?, output, done)
+}
+
+fn answered<T>(
+    room: &mut [u8],
+    operation: Operation,
+    frame: &[u8],
+    output: &mut [u8],
+    done: impl FnOnce(&Numbers) -> T,
+) -> Result<T, Refusal> {
     let written = interface::answer(room, frame, output);
-    answer::read(output.get(..written).unwrap_or_default()).map(|mut values| done(&mut values))
-}
-
-/// A read's value, or its refusal: those that a read meets carry nothing.
-fn told<T>((number, value): interface::Told<T>) -> Result<T, Refusal> {
-    match number {
-        0 => Ok(value),
-        _ => Err(Refusal::of(number, &mut Values::of(&[]))),
-    }
-}
-
-fn certificate(values: &mut Values) -> Certificate {
-    Certificate {
-        version: values.word(),
-        rows: values.word(),
-        active: values.word(),
-        balanced: values.yes(),
-        initial_total: values.amount(),
-        committed_total: values.amount(),
-        representable: values.yes(),
-        since: values.amount(),
+    let answer = Numbers::of_bytes(operation.code(), output.get(..written).unwrap_or_default())?;
+    match answer.number() {
+        0 => Ok(done(&answer)),
+        _ => Err(Refusal::of(&answer)),
     }
 }

@@ -1,6 +1,6 @@
 -- Decoding from the front, for `front_bytes` and `bytes_of_line`. `Underway` holds whatever characters follow, so that a pair more is one step of the rules'
 -- `bytesOfLine` behind those passed (`turn`), and a pair that is none, or one character left, makes no frame of any longer part (`stopped`).
-use mathlib.Core.Path.{_≡_, refl, sym, ap, subst, _∙_}
+use mathlib.Core.Path.{_≡_, refl, sym, ap, ap₂, subst, _∙_}
 use mathlib.Core.Logic.{_⊎_, inl, inr}
 use mathlib.Core.Bool.{and-false}
 use mathlib.Core.List.{List, [], _∷_, _++_, append-assoc, append-nil}
@@ -8,11 +8,12 @@ use mathlib.Core.Option.{Option, none, some}
 use Prim.Native.Nat.{ℕ, zero, suc, _+_, _-_, _*_, _≤_, _<_}
 use native.Mathlib.Numerals.{add-one}
 use native.Mathlib.Omega.{arith}
-use borrow.Author.Tests.{lt-ltb, le-ltb}
+use borrow.Author.Tests.{lt-ltb, le-ltb, ltb-true, ltb-false}
 use lib.Dec.{ltb}
 use lib.ListN.{length, getD, take, drop, set, take-append-drop}
 use lib.Seq.{drop-cons, drop-drop, take-add, take-all, take-suc-set, drop-set-lt, length-take-le}
 use Rattle.rules.specs.Frames.{digitOf, byteBefore, bytesOfLine}
+use Rattle.rules.proofs.Tests.{by-bool, none-some}
 use Rattle.digits.specs.declared.Decoded.the-variants.{Bytes, BadFrame}
 use Rattle.digits.specs.Decoding.{Decodes, FrontDecoded}
 
@@ -131,14 +132,37 @@ module _ {line before after : List ℕ} {i : ℕ} (w : Underway line before afte
 -- ── the line ───────────────────────────────────────────────────────────────────────────────────
 
 module _ {line before after : List ℕ} {size : ℕ} (f : FrontDecoded line before after size) where
+  pub no-line : size + size < length line → bytesOfLine line ≡ none
+  no-line h = ap bytesOfLine (sym (take-all (length line) line (omega arith))) ∙ f .no-frame (length line) h (omega arith)
+
+  pub whole-line : length line ≤ size + size → bytesOfLine line ≡ some (take size after)
+  whole-line h = ap bytesOfLine (sym (take-all (size + size) line h)) ∙ f .bytes
+
+  pub room-holds : after ≡ take size after ++ drop size before
+  room-holds = sym (take-append-drop size after) ∙ ap (λ bs. take size after ++ bs) (f .room)
+
   pub refused : size + size < length line → length after ≡ length before → Decodes (bytesOfLine line) before after BadFrame
-  refused h s = subst (λ bs. Decodes bs before after BadFrame) (sym (ap bytesOfLine (sym (take-all (length line) line (omega arith))) ∙ f .no-frame (length line) h (omega arith))) record { answer = refl; size = s }
+  refused h s = subst (λ bs. Decodes bs before after BadFrame) (sym (no-line h)) record { answer = refl; size = s }
 
   pub whole : length line ≤ size + size → Decodes (bytesOfLine line) before after (Bytes size)
   whole h =
       let long : length (take size after) ≡ size = length-take-le size after (f .fits) in
-      let bytes : bytesOfLine line ≡ some (take size after) = ap bytesOfLine (sym (take-all (size + size) line h)) ∙ f .bytes in
-      subst (λ bs. Decodes bs before after (Bytes size)) (sym bytes) record {
+      subst (λ bs. Decodes bs before after (Bytes size)) (sym (whole-line h)) record {
         answer = ap Bytes (sym long);
-        room = sym (take-append-drop size after) ∙ ap (λ bs. take size after ++ bs) (f .room ∙ ap (λ n. drop n before) (sym long));
+        room = room-holds ∙ ap (λ n. take size after ++ drop n before) (sym long);
       }
+
+-- the pairs at the front of a line fix what the room holds
+module _ {line before : List ℕ} where
+  no-longer : {after others : List ℕ} {size other : ℕ} → FrontDecoded line before after size → FrontDecoded line before others other → other ≤ size
+  no-longer {size} {other} f g = by-bool (λ b. ltb size other ≡ b → other ≤ size) (ltb size other)
+      (λ _ t. let more : size < other = ltb-true size other t in none-some (sym (f .no-frame (other + other) (omega arith) (g .within)) ∙ g .bytes))
+      (λ _ t. ltb-false size other t)
+      refl
+
+  pub same-front : {after others : List ℕ} {size other : ℕ} → FrontDecoded line before after size → FrontDecoded line before others other → (size ≡ other) × (after ≡ others)
+  same-front {after} {others} {size} {other} f g =
+      let same : size ≡ other = omega (arith, no-longer f g, no-longer g f) in
+      let both : some (take size after) ≡ some (take other others) = sym (f .bytes) ∙ ap (λ n. bytesOfLine (take (n + n) line)) same ∙ g .bytes in
+      let front : take size after ≡ take other others = cc in
+      (same, room-holds f ∙ ap₂ (λ bs n. bs ++ drop n before) front same ∙ sym (room-holds g))

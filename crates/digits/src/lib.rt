@@ -87,3 +87,20 @@ pub fn spell(output: &mut [u8], size: usize)
         output[at] = character(&table, byte / 16);
     }
 }
+
+// Bytes that stand apart from their line, as those of a part of an answer do: what stood behind the line is kept.
+pub fn spell_part(bytes: &[u8], output: &mut [u8])
+    requires { ⌜ length (now bytes) + length (now bytes) ≤ length (now output) ⌝ }
+    ensures { λ _. ⌜
+        now (output .exit)
+        ≡ lineOfBytes (now (bytes .entry)) ++ drop (length (now (bytes .entry)) + length (now (bytes .entry))) (now (output .entry)) ⌝ }
+{
+    let table = CHARACTER;
+    let mut i = 0;
+    while i < bytes.len() {
+        let at = i + i;
+        output[at + 1] = character(&table, bytes[i] % 16);
+        output[at] = character(&table, bytes[i] / 16);
+        i += 1;
+    }
+}

@@ -1,9 +1,9 @@
 -- Frames whose length their code fixes. A body that takes the bytes up to a place (`Takes` of snapshot_reader) reads the frame when it ends there, and none
 -- when it is shorter or longer (`Sized`); a body is put together of its parts by `takes-then`.
-use mathlib.Core.Path.{_≡_, refl, _∙_, ap, subst}
+use mathlib.Core.Path.{_≡_, refl, _∙_, ap}
 use mathlib.Core.List.{List}
 use mathlib.Core.Option.{none, some}
-use Prim.Native.Nat.{ℕ, _+_, _-_, _≤_}
+use Prim.Native.Nat.{ℕ, _+_, _≤_}
 use native.Mathlib.Omega.{arith}
 use borrow.Author.Tests.{ltb-true, ltb-false, eq-eqb, ne-eqb}
 use lib.Dec.{ltb}
@@ -12,12 +12,13 @@ use lib.ListN.{length, take, drop, getD, length-drop}
 use Rattle.rules.specs.Lists.{first}
 use Rattle.rules.specs.RoomAndSoundLedger.{Name}
 use Rattle.rules.specs.AccountRules.{AccountOperation, commit, release}
-use Rattle.rules.specs.SnapshotsMigrationCertificates.{Reader, reads, whole, numberOf, readNumber, readPart, readName}
-use Rattle.rules.specs.Frames.{Operation, onAccount, nameAndAmount, codes, operationOf}
+use Rattle.rules.specs.SnapshotsMigrationCertificates.{Reader, reads, whole, numberOf}
+use Rattle.rules.specs.Frames.{Operation, onAccount, codes, operationOf}
 use Rattle.rules.proofs.Tests.{by-bool}
-use Rattle.snapshot_reader.proofs.RowBytes.{Takes, takes-then, takes-nothing, part-takes, number-takes, amountAt, amount-takes}
+use Rattle.snapshot_reader.proofs.RowBytes.{Takes, takes-then, takes-nothing, number-takes, amountAt, amount-takes, name-takes-from}
 use Rattle.frame_reader.specs.Operations.{wordEnd, twoWordsEnd, nameStart, nameIn}
-use Rattle.frame_reader.proofs.Codes.{byte-at, bodyWith, by-code}
+use Rattle.rules.proofs.Fields.{bodyWith}
+use Rattle.frame_reader.proofs.Codes.{by-code, nameAndAmount}
 
 -- ── a reader that takes just the bytes that are there ──────────────────────────────────────────
 
@@ -64,15 +65,9 @@ module _ {bs : List ℕ} (h : 1 ≤ length bs) where
 
   -- 01 to 04: byte 1 is the length of the name, and the amount follows the name
   module _ (end : ℕ) (ends : end ≡ nameStart + getD bs 1 0) where
-    name-takes : Takes bs 1 end readName (nameIn bs end)
-    unfolding readName
-    name-takes =
-        let size : numberOf (take 1 (drop 1 bs)) ≡ end - nameStart = byte-at 1 bs ∙ omega arith in
-        takes-then readPart (subst (Takes bs 1 nameStart (readNumber 1)) size (number-takes bs 1 nameStart 1 refl)) (omega arith) (part-takes bs nameStart end (end - nameStart) (omega arith))
-
     pub naming : {number : ℕ} (operation : Name → ℤ → AccountOperation ℕ) → getD bs 0 0 ≡ number → bodyWith number ≡ nameAndAmount operation
         → Sized bs (end + 8) (onAccount (operation (nameIn bs end) (amountAt end bs)))
     naming operation e is = sized e is
-        (takes-then _ name-takes (omega arith)
+        (takes-then _ (name-takes-from bs 1 nameStart end refl ends) (omega arith)
         (takes-then _ (amount-takes bs end (end + 8) refl) (omega arith)
         (takes-nothing bs (end + 8) _)))

@@ -12,16 +12,17 @@ use lib.ListN.{length, take, drop, getD, length-drop}
 use lib.Seq.{take-all}
 use Rattle.rules.specs.Lists.{first}
 use Rattle.rules.specs.SnapshotsMigrationCertificates.{Snapshot, Reader, reads, goOn, _>>=_, whole, numberOf, readSnapshot, snapshotOfBytes}
-use Rattle.rules.specs.Frames.{Operation, migrateTo, certify, aSnapshot, codes, operationOf}
+use Rattle.rules.specs.Frames.{Operation, migrateTo, certify, codes, operationOf}
 use Rattle.rules.proofs.Tests.{by-bool, by-option, true-false}
 use Rattle.snapshot_reader.specs.Standing.{isRead}
 use Rattle.snapshot_reader.proofs.RowBytes.{Takes, goes-on, takes-nothing, number-takes, amountAt, amount-takes}
 use Rattle.frame_reader.specs.Operations.{wordEnd, supplied, StandsFrom}
-use Rattle.frame_reader.proofs.Codes.{bodyWith, by-code}
+use Rattle.rules.proofs.Fields.{bodyWith}
+use Rattle.frame_reader.proofs.Codes.{by-code, snapshotFor}
 
 -- ── bytes that are a snapshot ──────────────────────────────────────────────────────────────────
 
-whole-snapshot : (operation : Snapshot → Operation) (bs : List ℕ) → whole (aSnapshot operation bs) ≡ supplied operation (snapshotOfBytes bs)
+whole-snapshot : (operation : Snapshot → Operation) (bs : List ℕ) → whole (snapshotFor operation bs) ≡ supplied operation (snapshotOfBytes bs)
 unfolding snapshotOfBytes
 whole-snapshot operation bs = by-option (λ o. whole (goOn o (λ s. reads (operation s))) ≡ supplied operation (whole o)) (readSnapshot bs)
     (λ _. refl)
@@ -53,16 +54,16 @@ refused {bs} {from} {operation} frame f = by-bool (λ b. ltb (length bs) from �
 module _ {bs : List ℕ} (h : 1 ≤ length bs) where
   -- the snapshot stands after another value
   after-value : {number from : ℕ} {A : Type 0} {reader : Reader A} {x : A} (operation : A → Snapshot → Operation)
-      → getD bs 0 0 ≡ number → bodyWith number ≡ (reader >>= (λ y. aSnapshot (operation y))) → Takes bs 1 from reader x → Supplied bs from (operation x)
+      → getD bs 0 0 ≡ number → bodyWith number ≡ (reader >>= (λ y. snapshotFor (operation y))) → Takes bs 1 from reader x → Supplied bs from (operation x)
   after-value {number} {from} {reader} {x} operation e is takes =
-      let read : operationOf bs ≡ whole ((reader >>= (λ y. aSnapshot (operation y))) (drop 1 bs)) = by-code bs h number e ∙ ap (λ r. whole (r (drop 1 bs))) is in
+      let read : operationOf bs ≡ whole ((reader >>= (λ y. snapshotFor (operation y))) (drop 1 bs)) = by-code bs h number e ∙ ap (λ r. whole (r (drop 1 bs))) is in
       record {
-        short = λ l. read ∙ ap (λ o. whole (goOn o (λ y. aSnapshot (operation y)))) (takes .short h l);
-        long = λ l. read ∙ ap whole (goes-on (λ y. aSnapshot (operation y)) takes l) ∙ whole-snapshot (operation x) (drop from bs);
+        short = λ l. read ∙ ap (λ o. whole (goOn o (λ y. snapshotFor (operation y)))) (takes .short h l);
+        long = λ l. read ∙ ap whole (goes-on (λ y. snapshotFor (operation y)) takes l) ∙ whole-snapshot (operation x) (drop from bs);
       }
 
   -- 08, 09, 0e: the snapshot
-  pub after-code : {number : ℕ} (operation : Snapshot → Operation) → getD bs 0 0 ≡ number → bodyWith number ≡ aSnapshot operation → Supplied bs 1 operation
+  pub after-code : {number : ℕ} (operation : Snapshot → Operation) → getD bs 0 0 ≡ number → bodyWith number ≡ snapshotFor operation → Supplied bs 1 operation
   after-code operation e is = after-value (λ _. operation) e is (takes-nothing bs 1 (tt {0}))
 
   -- 0a: the fence, then the snapshot

@@ -10,10 +10,10 @@ use lib.ListN.{length, take, drop, take-append-drop}
 use lib.Seq.{take-add, take-take, length-take-le}
 use Rattle.rules.specs.Frames.{Operation, longestLine, lineFeed, digitOf, byteBefore, bytesOfLine, operationOfFrame, operationOfLine}
 use Rattle.rules.proofs.FrameBytes.{line-as-frame, no-bytes-no-frame}
-use Rattle.numbers.proofs.Bytes.{all-join}
+use Rattle.rules.proofs.Lists.{all-join}
+use Rattle.rules.proofs.Tests.{less-or-not}
 use Rattle.digits.specs.Decoding.{FrontDecoded}
 use Rattle.digits.proofs.Decoding.{wrong-pair}
-use Rattle.soundness.proofs.Deciding.{less-or-not}
 use Rattle.lines.specs.Batching.{IsLine, FirstFeed, FirstLine, PromisesLine, nextOf, NextFound, PromisesNext}
 use Rattle.lines.specs.declared.LineAnswer.{LineAnswer}
 use Rattle.lines.specs.declared.LineAnswer.the-variants as answered

@@ -3,14 +3,13 @@
 use mathlib.Core.Path.{_≡_, sym, ap, _∙_}
 use mathlib.Core.List.{List, _++_}
 use mathlib.Core.Option.{some}
-use Prim.Native.Nat.{ℕ, _≤_}
+use Prim.Native.Nat.{ℕ}
 use lib.ListN.{length, take, drop}
-use lib.Seq.{drop-append-le, take-length, take-at}
+use lib.Seq.{take-at}
 use Rattle.rules.specs.Lists.{All}
 use Rattle.rules.specs.RoomAndSoundLedger.{IsByte}
 use Rattle.rules.specs.SnapshotsMigrationCertificates.{Snapshot, bytesOf, snapshotBytes, snapshotOfBytes, withVersion}
 use Rattle.rules.proofs.SnapshotBytes.{snapshot-only, snapshot-length}
-use Rattle.names.proofs.Copying.{copied}
 
 module _ (bs : List ℕ) (bytes : All IsByte bs) (s : Snapshot) (read : snapshotOfBytes bs ≡ some s) (version : ℕ) where
   supplied : snapshotBytes s ≡ bs
@@ -23,10 +22,6 @@ module _ (bs : List ℕ) (bytes : All IsByte bs) (s : Snapshot) (read : snapshot
   -- so that whether the output has room is asked of the bytes supplied
   pub migrated-length : length (snapshotBytes (withVersion version s)) ≡ length bs
   migrated-length = snapshot-length (withVersion version s) ∙ sym (snapshot-length s) ∙ ap length supplied
-
--- bytes copied to the front of the output, without the first eight
-pub behind-the-version : (bs output : List ℕ) → 8 ≤ length bs → drop 8 (copied output bs (length bs)) ≡ drop 8 bs ++ drop (length bs) output
-behind-the-version bs output h = rw (take-length bs) (drop-append-le 8 bs (drop (length bs) output) h)
 
 -- an output that begins with such bytes, and then keeps its content
 module _ (handed output : List ℕ) (size : ℕ) (long : length handed ≡ size) (after : List ℕ) (is : after ≡ handed ++ drop size output) where

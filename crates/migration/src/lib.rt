@@ -43,16 +43,12 @@ fn refusal(bytes: &[u8], fence: u64, size: usize) -> Judged
     validation::nameless(Verdict::Done)
 }
 
-// The bytes supplied, in one pass, and then the version over the first eight of them.
+// The bytes supplied, and then the version over the first eight of them.
 fn write_migrated(bytes: &[u8], version: u64, output: &mut [u8])
     requires { ⌜ (8 ≤ length (now bytes)) × (length (now bytes) ≤ length (now output)) ⌝ }
     ensures { λ _. ⌜ now (output .exit) ≡ bytesOf 8 version ++ drop 8 (now (bytes .entry)) ++ drop (length (now (bytes .entry))) (now (output .entry)) ⌝ }
 {
-    let mut i = 0;
-    while i < bytes.len() {
-        output[i] = bytes[i];
-        i += 1;
-    }
+    numbers::copy(bytes, output);
     big_endian::write8(&mut output[0..8], version);
 }
 

@@ -1,4 +1,3 @@
 pub mod Comparing
-pub mod Copying
 pub mod Storing
 pub mod Words

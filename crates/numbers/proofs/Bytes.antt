@@ -1,6 +1,6 @@
 -- Lists of bytes, and lists spelt out by their elements.
 use mathlib.Core.Path.{_≡_, sym}
-use mathlib.Core.List.{List, [], _∷_, _++_, flatMap}
+use mathlib.Core.List.{List, [], _∷_}
 use Prim.Native.Nat.{ℕ, zero, suc, _+_, _<_}
 use native.Mathlib.Omega.{arith}
 use native.Mathlib.Numerals.{add-one}
@@ -17,10 +17,6 @@ module _ {A : Type 0} (P : A → Type 0) where
   all-at z [] h = tt
   all-at z (x ∷ xs) h = (h 0, all-at z xs (λ i. h (suc i)))
 
-  pub all-join : (xs ys : List A) → All P xs → All P ys → All P (xs ++ ys)
-  all-join [] ys h k = k
-  all-join (x ∷ xs) ys (h, h′) k = (h, all-join xs ys h′ k)
-
   pub all-take : (n : ℕ) (xs : List A) → All P xs → All P (take n xs)
   all-take zero xs h = tt
   all-take (suc n) [] h = tt
@@ -34,12 +30,6 @@ module _ {A : Type 0} (P : A → Type 0) where
   pub all-repeat : (x : A) → P x → (n : ℕ) → All P (replicate n x)
   all-repeat x h zero = tt
   all-repeat x h (suc n) = (h, all-repeat x h n)
-
-  -- each element's list one after the other
-  pub all-flat : {B : Type 0} (Q : B → Type 0) (f : B → List A) → ((y : B) → Q y → All P (f y)) → (ys : List B) → All Q ys → All P (flatMap f ys)
-  unfolding flatMap
-  all-flat Q f g [] h = tt
-  all-flat Q f g (y ∷ ys) (h, k) = all-join (f y) (flatMap f ys) (g y h) (all-flat Q f g ys k)
 
 -- what the check knows of a slice of bytes
 pub all-bytes : (xs : List ℕ) → ((i : ℕ) → Fits w8 (getD xs i 0)) → All IsByte xs

@@ -1,8 +1,9 @@
-// Numbers: little-endian in lent bytes, and amounts of money.
+// Numbers: little-endian in lent bytes, and amounts of money. And bytes copied as they stand.
 ghost use Prim.Native.Nat.{_≤_};
 ghost use mathlib.Core.Path.{_≡_};
+ghost use mathlib.Core.List.{_++_};
 ghost use lib.IntN.{pos, _-ℤ_};
-ghost use lib.ListN.{length};
+ghost use lib.ListN.{length, drop};
 ghost use Rattle.rules.specs.RoomAndSoundLedger.{M};
 ghost use Rattle.rules.specs.AccountRules.{natural};
 ghost use Rattle.numbers.specs.LittleEndian.{littleNumber, littleBytes};
@@ -103,6 +104,18 @@ pub fn write1(bytes: &mut [u8], number: u8)
     ensures { λ _. ⌜ now (bytes .exit) ≡ littleBytes 1 number ⌝ }
 {
     bytes[0] = number;
+}
+
+// Over the output's front: what stands behind it is kept.
+pub fn copy(bytes: &[u8], output: &mut [u8])
+    requires { ⌜ length (now bytes) ≤ length (now output) ⌝ }
+    ensures { λ _. ⌜ now (output .exit) ≡ now (bytes .entry) ++ drop (length (now (bytes .entry))) (now (output .entry)) ⌝ }
+{
+    let mut i = 0;
+    while i < bytes.len() {
+        output[i] = bytes[i];
+        i += 1;
+    }
 }
 
 // M is 2^63 - 1. The room left below M is compared, so that no sum wraps.

@@ -13,7 +13,8 @@ use Rattle.rules.specs.RoomAndSoundLedger.{M, longestName, IsByte, hasTag, fenc
 use Rattle.rules.proofs.Tests.{by-option, true-false}
 use Rattle.rules.proofs.Lists.{all-map, all-both}
 use Rattle.rules.proofs.Keys.{all-images}
-use Rattle.numbers.proofs.Bytes.{all-join, all-repeat, all-flat}
+use Rattle.rules.proofs.Lists.{all-join, all-flat}
+use Rattle.numbers.proofs.Bytes.{all-repeat}
 use Rattle.numbers.proofs.LittleEndian.{little-fit}
 use Rattle.rules.proofs.Places.{account-holds}
 use Rattle.rules.proofs.SoundByName.{AccountSound, part-of-sum, by-name}

@@ -10,19 +10,15 @@ use native.Mathlib.Nat.{div-add-mod'}
 use native.Mathlib.Omega.{arith}
 use borrow.Author.Tests.{ltb-true, ltb-false, lt-ltb, le-ltb, leb-true, le-leb, lt-leb}
 use lib.Arith.{digits-div, digits-mod}
-use lib.Dec.{leb, ltb, eqb}
-use lib.IntN.{ℤ}
+use lib.Dec.{leb, ltb}
 use lib.ListN.{length}
-use Rattle.rules.specs.Lists.{first, All}
-use Rattle.rules.specs.RoomAndSoundLedger.{Name, IsByte, isInRange}
-use Rattle.rules.specs.AccountRules.{AccountOperation, ensure, topUp, limit, reserve}
-use Rattle.rules.specs.SnapshotsMigrationCertificates.{Snapshot, bytesOf}
-use Rattle.rules.specs.Frames.{digitOf, byteBefore, bytesOfLine, Operation, restoreFrom, recoverFrom, judge, migrateTo, certify, nameAndAmount, aSnapshot, codes, bodyOf, readOperation, operationOf, characterOf, lineOfBytes, operationOfBytes, longestFrame, longestLine, operationOfLine, operationOfFrame}
-use Rattle.rules.specs.Domain.{IsAmount, IsBytes, AccountOperationFits, SnapshotFits, OperationFits}
+use Rattle.rules.specs.Lists.{All}
+use Rattle.rules.specs.RoomAndSoundLedger.{IsByte, isInRange}
+use Rattle.rules.specs.Frames.{digitOf, byteBefore, bytesOfLine, Operation, operationOf, characterOf, lineOfBytes, operationOfBytes, longestFrame, longestLine, operationOfLine, operationOfFrame}
+use Rattle.rules.specs.Domain.{OperationFits}
 use Rattle.rules.proofs.Tests.{by-test, by-bool, by-option, and-true, none-some}
-use Rattle.rules.proofs.Lists.{first-all}
-use Rattle.rules.proofs.Reading.{Read, ReadsAfter, only-reads, whole-only, number-only, amount-only, name-only, only-then}
-use Rattle.rules.proofs.SnapshotBytes.{readSnapshot-only}
+use Rattle.rules.proofs.Reading.{whole-only}
+use Rattle.rules.proofs.Fields.{operation-read}
 
 -- ── digits and their characters ────────────────────────────────────────────────────────────────
 
@@ -77,6 +73,11 @@ unfolding lineOfBytes
 line-length [] = refl
 line-length (b ∷ bs) = omega (arith, line-length bs)
 
+pub line-append : (bs cs : List ℕ) → lineOfBytes (bs ++ cs) ≡ lineOfBytes bs ++ lineOfBytes cs
+unfolding lineOfBytes
+line-append [] cs = refl
+line-append (b ∷ bs) cs = ap (λ l. characterOf (b / 16) ∷ characterOf (b % 16) ∷ l) (line-append bs cs)
+
 -- ── a frame as bytes and as a line ─────────────────────────────────────────────────────────────
 
 module _ (line : List ℕ) where
@@ -99,52 +100,9 @@ frame-as-line bs bytes = sym (line-as-frame (lineOfBytes bs) bs (line-back bs by
 
 -- ── an operation read fits ─────────────────────────────────────────────────────────────────────
 
--- no bytes of an operation are defined: of what is read, only that it fits
-abbrev Fitting : List ℕ → Operation → Type 0
-Fitting part x = OperationFits x
-
-module _ (before : List ℕ) where
-  name-and-amount-fit : (operation : Name → ℤ → AccountOperation ℕ) → ((a : Name) (z : ℤ) → IsBytes a → IsAmount z → AccountOperationFits (operation a z)) → ReadsAfter before (nameAndAmount operation) Fitting
-  name-and-amount-fit operation h = only-then name-only λ a (bytes, _). only-then amount-only λ z amount. only-reads (h a z bytes amount)
-
-  snapshot-fits : (operation : Snapshot → Operation) → ((s : Snapshot) → SnapshotFits s → OperationFits (operation s)) → ReadsAfter before (aSnapshot operation) Fitting
-  snapshot-fits operation h = only-then readSnapshot-only λ s fits. only-reads (h s fits)
-
-infixr 5 _and_
-abbrev _and_ : {A B : Type 0} → A → B → A × B
-a and b = (a, b)
-
--- code by code
-bodies-fit : (before : List ℕ) → All (λ c. ReadsAfter before (c .body) Fitting) codes
-unfolding codes
-bodies-fit before =
-    name-and-amount-fit before ensure (λ a z h k. (h, k))
-    and name-and-amount-fit before topUp (λ a z h k. (h, k))
-    and name-and-amount-fit before limit (λ a z h k. (h, k))
-    and name-and-amount-fit before reserve (λ a z h k. (h, k))
-    and only-then (number-only 8) (λ i _. only-then amount-only λ z amount. only-reads amount)
-    and only-then (number-only 8) (λ i _. only-reads tt)
-    and only-reads tt
-    and snapshot-fits before restoreFrom (λ s h. h)
-    and snapshot-fits before recoverFrom (λ s h. h)
-    and only-then (number-only 8) (λ fence h. snapshot-fits _ (migrateTo fence) (λ s k. (h, k)))
-    and only-reads tt
-    and only-then amount-only (λ since h. snapshot-fits _ (certify since) (λ s k. (h, k)))
-    and only-reads tt
-    and snapshot-fits before judge (λ s h. h)
-    and tt
-
-operation-read : ReadsAfter [] readOperation Fitting
-unfolding readOperation
-operation-read = only-then (number-only 1) λ n h. record {
-  read = λ bs bytes r. by-option (λ o. bodyOf o bs ≡ some r → Read Fitting (bytesOf 1 n ++ bs) r) (first (λ c. eqb n (c .number)) codes)
-      (λ _ q. none-some q)
-      (λ c p q. first-all (λ c. ReadsAfter (bytesOf 1 n) (c .body) Fitting) _ codes c (bodies-fit (bytesOf 1 n)) p .read bs bytes r q);
-}
-
 pub operation-fits : (bs : List ℕ) → All IsByte bs → (x : Operation) → operationOf bs ≡ some x → OperationFits x
 unfolding operationOf
-operation-fits bs bytes x e = whole-only operation-read bs bytes x e
+operation-fits bs bytes x e = whole-only operation-read bs bytes x e .1
 
 -- whatever characters the line has
 pub line-fits : (line : List ℕ) (x : Operation) → operationOfLine line ≡ some x → OperationFits x

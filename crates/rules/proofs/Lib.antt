@@ -14,7 +14,11 @@ pub mod Decided
 pub mod OwnSnapshot
 pub mod Reading
 pub mod SnapshotBytes
+pub mod Fields
 pub mod FrameBytes
+pub mod Recorder
+pub mod AnswerLines
+pub mod AnswerWords
 pub mod Refusals
 pub mod EveryLine
 pub mod MarkedCases
@@ -32,3 +36,6 @@ pub mod OrderBetweenAirlines
 pub mod OtherSeats
 pub mod OrderExample
 pub mod ByIndex
+pub mod AccountAnswers
+pub mod SnapshotAnswers
+pub mod AnswersRead

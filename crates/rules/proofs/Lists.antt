@@ -78,6 +78,16 @@ module _ {A : Type 0} where
   all-both P Q S f [] h k = tt
   all-both P Q S f (x ∷ xs) (h, h′) (k, k′) = (f x h k, all-both P Q S f xs h′ k′)
 
+  pub all-join : (P : A → Type 0) (xs ys : List A) → All P xs → All P ys → All P (xs ++ ys)
+  all-join P [] ys h k = k
+  all-join P (x ∷ xs) ys (h, h′) k = (h, all-join P xs ys h′ k)
+
+  -- each element's list one after the other
+  pub all-flat : {B : Type 0} (P : A → Type 0) (Q : B → Type 0) (f : B → List A) → ((y : B) → Q y → All P (f y)) → (ys : List B) → All Q ys → All P (flatMap f ys)
+  unfolding flatMap
+  all-flat P Q f g [] h = tt
+  all-flat P Q f g (y ∷ ys) (h, k) = all-join P (f y) (flatMap f ys) (g y h) (all-flat P Q f g ys k)
+
   pub all-parts : (P : A → Type 0) (xs ys : List A) → All P (xs ++ ys) → All P xs × All P ys
   all-parts P [] ys h = (tt, h)
   all-parts P (x ∷ xs) ys (h, k) = let (a, b) = all-parts P xs ys k in ((h, a), b)

@@ -8,16 +8,17 @@ use Prim.Native.Nat.{ℕ, zero, suc, _+_, _*_, _≤_}
 use native.Mathlib.Omega.{arith}
 use borrow.Author.Tests.{ltb-false, le-ltb}
 use lib.Dec.{ltb}
+use lib.IntN.{ℤ}
 use lib.ListN.{length, length-append}
 use Rattle.rules.specs.Lists.{sum, All}
 use Rattle.rules.specs.RoomAndSoundLedger.{longestName, IsByte}
 use Rattle.rules.specs.AccountRules.{isTooLong}
-use Rattle.rules.specs.SnapshotsMigrationCertificates.{Row, Snapshot, mostRows, bytesOf, rowBytes, snapshotBytes, readRow, readRows, readCount, readSnapshot, snapshotOfBytes, hasLongName, tooShortFor}
+use Rattle.rules.specs.SnapshotsMigrationCertificates.{Row, Snapshot, mostRows, bytesOf, twosComplement, amountBytes, nameBytes, rowBytes, snapshotBytes, readRow, readRows, readCount, readSnapshot, snapshotOfBytes, hasLongName, tooShortFor}
 use Rattle.rules.specs.Frames.{longestSnapshot}
 use Rattle.rules.specs.Domain.{RowFits, SnapshotFits}
 use Rattle.rules.proofs.Tests.{by-test, none-some}
-use Rattle.rules.proofs.Lists.{none-any}
-use Rattle.rules.proofs.Numbers.{bytes-length}
+use Rattle.rules.proofs.Lists.{none-any, all-join, all-flat}
+use Rattle.rules.proofs.Numbers.{bytes-length, bytes-fit}
 use Rattle.rules.proofs.Reading.{ReadsBack, whole-back, Read, WrittenBy, ReadsOnly, only-reads, whole-only, number-back, number-only, amount-back, amount-only, name-back, name-only, only-then}
 
 -- ── what was written is read back ──────────────────────────────────────────────────────────────
@@ -98,6 +99,28 @@ readSnapshot-only =
 pub snapshot-only : (bs : List ℕ) → All IsByte bs → (s : Snapshot) → snapshotOfBytes bs ≡ some s → (snapshotBytes s ≡ bs) × SnapshotFits s
 unfolding snapshotOfBytes
 snapshot-only bs bytes s e = let (is, fits) = whole-only readSnapshot-only bs bytes s e in (sym is, fits)
+
+-- ── they are bytes ─────────────────────────────────────────────────────────────────────────────
+
+-- amounts behind bytes
+with-amount : (xs : List ℕ) → All IsByte xs → (z : ℤ) → All IsByte (xs ++ amountBytes z)
+with-amount xs k z = all-join IsByte xs (amountBytes z) k (bytes-fit 8 (twosComplement z))
+
+row-is-bytes : (r : Row) → RowFits r → All IsByte (rowBytes r)
+unfolding rowBytes
+row-is-bytes r h =
+    let first = nameBytes (r .name) ++ amountBytes (r .initial) in
+    let second = first ++ amountBytes (r .remaining) in
+    let third = second ++ amountBytes (r .reserved) in
+    with-amount third (with-amount second (with-amount first (with-amount (nameBytes (r .name)) (h .size, h .bytes) (r .initial)) (r .remaining)) (r .reserved)) (r .committed)
+
+pub snapshot-is-bytes : (s : Snapshot) → SnapshotFits s → All IsByte (snapshotBytes s)
+unfolding snapshotBytes
+snapshot-is-bytes s h =
+    let counts = bytesOf 8 (s .version) ++ bytesOf 8 (s .active) in
+    all-join IsByte (counts ++ bytesOf 2 (length (s .rows))) (flatMap rowBytes (s .rows))
+    (all-join IsByte counts (bytesOf 2 (length (s .rows))) (all-join IsByte (bytesOf 8 (s .version)) (bytesOf 8 (s .active)) (bytes-fit 8 (s .version)) (bytes-fit 8 (s .active))) (bytes-fit 2 (length (s .rows))))
+    (all-flat IsByte RowFits rowBytes row-is-bytes (s .rows) (h .rows))
 
 -- ── how long they are ──────────────────────────────────────────────────────────────────────────
 

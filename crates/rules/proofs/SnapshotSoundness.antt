@@ -76,7 +76,7 @@ module _ (L : Ledger) (known : SoundByName L) where
   proof-sound = taking-sound _ (λ e. by-test (λ (o : Outcome). SoundByName (o .ledger)) (totalsFit (snapshotOf L .rows)) (λ _. after-snapshot-sound e) (λ _. after-snapshot-sound e))
 
   -- totals that fit are at most M, and so is a baseline that moves to the committed total
-  total-fits : (b : Bool) → totalsFit (accountRows (L .places)) && b ≡ true → committedTotal (L .places) ≤ M
+  pub total-fits : (b : Bool) → totalsFit (accountRows (L .places)) && b ≡ true → committedTotal (L .places) ≤ M
   total-fits b e =
       let both = and-true (totalsFit (accountRows (L .places))) b e .0 in
       let committed = and-true (fits64 (initialTotal (accountRows (L .places)))) (fits64 (committedRowsTotal (accountRows (L .places)))) both .1 in

@@ -183,7 +183,7 @@ module _ (L : Ledger) (sound : SoundByName L) where
       go (inr n) = rw (seatIn-seated-other b a s (L .places) n, k b n) (sound .accounts b)
 
   -- the limit of every name is at most M
-  limit-small : (a : Name) → seatIn a (L .places) .limit ≤ M
+  pub limit-small : (a : Name) → seatIn a (L .places) .limit ≤ M
   limit-small = seatIn-all (λ s. s .limit ≤ M) (L .places) (omega arith) (sound .places .limits)
 
   -- a name with an account is one

@@ -3,10 +3,10 @@ use mathlib.Core.Path.{_≡_, refl, sym, _∙_}
 use mathlib.Core.Logic.{_⊎_, inl, inr, _≢_}
 use mathlib.Core.Bool.{Bool, true, false, cond, _&&_, _||_, true≢false}
 use mathlib.Core.Option.{Option, none, some}
-use Prim.Native.Nat.{ℕ, Ordering, Ordering·lt, Ordering·eq, Ordering·gt}
+use Prim.Native.Nat.{ℕ, _≤_, _<_, Ordering, Ordering·lt, Ordering·eq, Ordering·gt}
 use native.Mathlib.Omega.{arith}
-use lib.Dec.{eqb}
-use borrow.Author.Tests.{eqb-true, eqb-false}
+use lib.Dec.{ltb, eqb}
+use borrow.Author.Tests.{ltb-true, ltb-false, eqb-true, eqb-false}
 
 -- the goal names what the test chooses
 pub by-test : {A : Type 0} (P : A → Type 0) (b : Bool) {x y : A} → (b ≡ true → P x) → (b ≡ false → P y) → P (cond b x y)
@@ -32,6 +32,9 @@ true-false e f = absurd (true≢false (sym e ∙ f))
 
 pub equal-or-not : (m n : ℕ) → (m ≡ n) ⊎ (m ≢ n)
 equal-or-not m n = by-bool (λ b. (m ≡ n) ⊎ (m ≢ n)) (eqb m n) (λ e. inl (eqb-true m n e)) (λ e. inr (eqb-false m n e))
+
+pub less-or-not : (m n : ℕ) → (m < n) ⊎ (n ≤ m)
+less-or-not m n = by-bool (λ _. (m < n) ⊎ (n ≤ m)) (ltb m n) (λ e. inl (ltb-true m n e)) (λ e. inr (ltb-false m n e))
 
 pub or-false : (a b : Bool) → a || b ≡ false → (a ≡ false) × (b ≡ false)
 or-false true b e = true-false refl e

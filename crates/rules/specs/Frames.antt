@@ -1,7 +1,7 @@
 -- Document 01, section "Frames".
-use mathlib.Core.Bool.{cond, _&&_}
+use mathlib.Core.Bool.{Bool, false, cond, _&&_, _||_}
 use mathlib.Core.List.{List, [], _∷_, _++_, flatMap}
-use mathlib.Core.Option.{Option, none, some}
+use mathlib.Core.Option.{Option, none, some, Option·map}
 use Prim.Native.Nat.{ℕ, _+_, _-_, _*_, _/_, _%_}
 use lib.Dec.{ltb, eqb}
 use lib.IntN.{ℤ}
@@ -9,8 +9,8 @@ use lib.ListN.{length}
 use Rattle.rules.specs.Lists.{first}
 use Rattle.rules.specs.RoomAndSoundLedger.{longestName, mostNames, mostReservations, Name, fresh, isInRange}
 use Rattle.rules.specs.AnswerNumbers.{Value, Amount, Identifier, Version, Fence, Count, Field, YesOrNo, TheName, SnapshotBytes, Reply, BadFrame, replyOf, Lent, sound, Answered, answered, onLent}
-use Rattle.rules.specs.AccountRules.{AccountOperation, ensure, topUp, limit, reserve, commit, release, operate}
-use Rattle.rules.specs.SnapshotsMigrationCertificates.{Snapshot, mostRows, bytesOf, amountBytes, nameBytes, Reader, reads, _>>=_, readNumber, readAmount, readName, readSnapshot, whole, snapshot, restore, recoveryRestore, migrate, status, certificateOfSnapshot, certificateOfLedger, conservationProof}
+use Rattle.rules.specs.AccountRules.{AccountOperation, ensure, topUp, limit, reserve, commit, release, isTooLong, operate}
+use Rattle.rules.specs.SnapshotsMigrationCertificates.{Snapshot, mostRows, bytesOf, amountBytes, nameBytes, Reader, reads, _>>=_, readNumber, readAmount, readName, readSnapshot, whole, snapshotBytes, snapshotOfBytes, hasLongName, snapshot, restore, recoveryRestore, migrate, status, certificateOfSnapshot, certificateOfLedger, conservationProof}
 
 -- ── a line of digits to bytes ──────────────────────────────────────────────────────────────────
 
@@ -37,36 +37,125 @@ pub data Operation : Type 0 where
   migrateTo : (fence : ℕ) → Snapshot → Operation
   certify : (since : ℤ) → Snapshot → Operation
 
-abbrev pub nameAndAmount : (Name → ℤ → AccountOperation ℕ) → Reader Operation
-nameAndAmount operation = do a ← readName; z ← readAmount; reads (onAccount (operation a z))
+-- What is handed in to be written where it is not a frame yet: numbers, and one part of lent bytes, a name or a snapshot
+pub record Parts : Type 0 where
+  pub number : ℕ
+  pub amount : ℤ
+  pub part : List ℕ
 
-abbrev pub aSnapshot : (Snapshot → Operation) → Reader Operation
-aSnapshot operation = do s ← readSnapshot; reads (operation s)
+-- What stands behind an operation's code: how it is read and written, how it is taken from parts, and whether one of its names is too long
+pub record Fields (A : Type 0) : Type 0 where
+  pub read : (A → Reader Operation) → Reader Operation
+  pub write : A → List ℕ
+  pub take : Parts → Option A
+  pub isLong : A → Bool
 
+abbrev pub nothing : Fields (Unit {0})
+nothing = record { read = λ go. go tt; write = λ _. []; take = λ _. some tt; isLong = λ _. false }
+
+abbrev pub aNumber : Fields ℕ
+aNumber = record { read = λ go. readNumber 8 >>= go; write = bytesOf 8; take = λ p. some (p .number); isLong = λ _. false }
+
+abbrev pub anAmount : Fields ℤ
+anAmount = record { read = λ go. readAmount >>= go; write = amountBytes; take = λ p. some (p .amount); isLong = λ _. false }
+
+abbrev pub aName : Fields Name
+aName = record { read = λ go. readName >>= go; write = nameBytes; take = λ p. some (p .part); isLong = isTooLong }
+
+abbrev pub aSnapshot : Fields Snapshot
+aSnapshot = record { read = λ go. readSnapshot >>= go; write = snapshotBytes; take = λ p. snapshotOfBytes (p .part); isLong = λ s. hasLongName (s .rows) }
+
+abbrev pub pairOf : {A B : Type 0} → Option A → Option B → Option (A × B)
+pairOf none y = none
+pairOf (some x) none = none
+pairOf (some x) (some y) = some (x, y)
+
+infixr 6 _followed-by_
+abbrev pub _followed-by_ : {A B : Type 0} → Fields A → Fields B → Fields (A × B)
+f followed-by g =
+    record {
+      read = λ go. f .read (λ x. g .read (λ y. go (x, y)));
+      write = λ p. f .write (p .0) ++ g .write (p .1);
+      take = λ p. pairOf (f .take p) (g .take p);
+      isLong = λ p. f .isLong (p .0) || g .isLong (p .1);
+    }
+
+-- A row of the paper's list of operations: the first byte, what stands behind it, and the operation that these are
+pub record Frame (A : Type 0) : Type 0 where
+  pub code : ℕ
+  pub fields : Fields A
+  pub operation : A → Operation
+
+abbrev pub frame : {A : Type 0} → ℕ → Fields A → (A → Operation) → Frame A
+frame n f x = record { code = n; fields = f; operation = x }
+
+abbrev pub ensureFrame : Frame (Name × ℤ)
+ensureFrame = frame 0x01 (aName followed-by anAmount) (λ f. onAccount (ensure (f .0) (f .1)))
+
+abbrev pub topUpFrame : Frame (Name × ℤ)
+topUpFrame = frame 0x02 (aName followed-by anAmount) (λ f. onAccount (topUp (f .0) (f .1)))
+
+abbrev pub limitFrame : Frame (Name × ℤ)
+limitFrame = frame 0x03 (aName followed-by anAmount) (λ f. onAccount (limit (f .0) (f .1)))
+
+abbrev pub reserveFrame : Frame (Name × ℤ)
+reserveFrame = frame 0x04 (aName followed-by anAmount) (λ f. onAccount (reserve (f .0) (f .1)))
+
+abbrev pub commitFrame : Frame (ℕ × ℤ)
+commitFrame = frame 0x05 (aNumber followed-by anAmount) (λ f. onAccount (commit (f .0) (f .1)))
+
+abbrev pub releaseFrame : Frame ℕ
+releaseFrame = frame 0x06 aNumber (λ i. onAccount (release i))
+
+abbrev pub snapshotFrame : Frame (Unit {0})
+snapshotFrame = frame 0x07 nothing (λ _. takeSnapshot)
+
+abbrev pub restoreFrame : Frame Snapshot
+restoreFrame = frame 0x08 aSnapshot restoreFrom
+
+abbrev pub recoveryFrame : Frame Snapshot
+recoveryFrame = frame 0x09 aSnapshot recoverFrom
+
+abbrev pub migrationFrame : Frame (ℕ × Snapshot)
+migrationFrame = frame 0x0a (aNumber followed-by aSnapshot) (λ f. migrateTo (f .0) (f .1))
+
+abbrev pub certificateFrame : Frame (Unit {0})
+certificateFrame = frame 0x0b nothing (λ _. certifyLedger)
+
+abbrev pub snapshotCertificateFrame : Frame (ℤ × Snapshot)
+snapshotCertificateFrame = frame 0x0c (anAmount followed-by aSnapshot) (λ f. certify (f .0) (f .1))
+
+abbrev pub proofFrame : Frame (Unit {0})
+proofFrame = frame 0x0d nothing (λ _. proveConservation)
+
+abbrev pub statusFrame : Frame Snapshot
+statusFrame = frame 0x0e aSnapshot judge
+
+-- .. read: by its first byte
 pub record Code : Type 0 where
   pub number : ℕ
   pub body : Reader Operation
+  pub ofParts : Parts → Option Operation
 
-abbrev pub code : ℕ → Reader Operation → Code
-code n r = record { number = n; body = r }
+abbrev pub code : {A : Type 0} → Frame A → Code
+code f = record { number = f .code; body = f .fields .read (λ x. reads (f .operation x)); ofParts = λ p. Option·map (f .operation) (f .fields .take p) }
 
--- the paper's list of operations: the first byte, and what is read behind it
 unfoldable pub codes : List Code
 codes =
-    code 0x01 (nameAndAmount ensure)
-    ∷ code 0x02 (nameAndAmount topUp)
-    ∷ code 0x03 (nameAndAmount limit)
-    ∷ code 0x04 (nameAndAmount reserve)
-    ∷ code 0x05 (do i ← readNumber 8; z ← readAmount; reads (onAccount (commit i z)))
-    ∷ code 0x06 (do i ← readNumber 8; reads (onAccount (release i)))
-    ∷ code 0x07 (reads takeSnapshot)
-    ∷ code 0x08 (aSnapshot restoreFrom)
-    ∷ code 0x09 (aSnapshot recoverFrom)
-    ∷ code 0x0a (do fence ← readNumber 8; aSnapshot (migrateTo fence))
-    ∷ code 0x0b (reads certifyLedger)
-    ∷ code 0x0c (do since ← readAmount; aSnapshot (certify since))
-    ∷ code 0x0d (reads proveConservation)
-    ∷ code 0x0e (aSnapshot judge)
+    code ensureFrame
+    ∷ code topUpFrame
+    ∷ code limitFrame
+    ∷ code reserveFrame
+    ∷ code commitFrame
+    ∷ code releaseFrame
+    ∷ code snapshotFrame
+    ∷ code restoreFrame
+    ∷ code recoveryFrame
+    ∷ code migrationFrame
+    ∷ code certificateFrame
+    ∷ code snapshotCertificateFrame
+    ∷ code proofFrame
+    ∷ code statusFrame
     ∷ []
 
 abbrev pub bodyOf : Option Code → Reader Operation

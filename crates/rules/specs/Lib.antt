@@ -6,5 +6,6 @@ pub mod SnapshotsMigrationCertificates
 pub mod Frames
 pub mod Refusals
 pub mod Domain
+pub mod Recorder
 pub mod OrderBetweenAirlines
 pub mod MarkedCases

@@ -1,6 +1,4 @@
 // The answers of snapshots, restores, migration, certificates and the conservation proof as document 01 writes them.
-use answer_bytes::LONGEST_OTHER_ANSWER;
-use answer_bytes::THREE_WORDS;
 use certificates::Certificate;
 use certificates::Certified;
 use certificates::Proof;
@@ -16,21 +14,6 @@ ghost use Rattle.validation.specs.Judgement.{judgedReply};
 ghost use Rattle.certificates.specs.Certified.{certificateReply, certifiedReply, proofReply, provedReply};
 ghost use Rattle.answer_bytes.specs.Sizes.{longestOtherAnswer};
 ghost use Rattle.answer_bytes.specs.Writing.{WritesReply};
-
-// Where the parts of a certificate end, and of a proof: behind three words, which both begin with.
-const BALANCED_END: usize = THREE_WORDS + 1;
-
-const INITIAL_END: usize = BALANCED_END + 8;
-
-const COMMITTED_END: usize = INITIAL_END + 8;
-
-const REPRESENTABLE_END: usize = COMMITTED_END + 1;
-
-const PROVED_INITIAL_END: usize = THREE_WORDS + 8;
-
-const PROVED_COMMITTED_END: usize = PROVED_INITIAL_END + 8;
-
-const PROOF_SIZE: usize = PROVED_COMMITTED_END + 1;
 
 // Done carries nothing: a migration that is done, which carries a snapshot, is not written here.
 pub fn write_judged(output: &mut [u8], judged: Judged) -> usize
@@ -73,7 +56,6 @@ fn flag(yes: bool) -> u8
     0
 }
 
-// What it carries, in order, says document 01, "Snapshots, migration, certificates".
 fn write_certificate(output: &mut [u8], certificate: Certificate) -> usize
     requires { ⌜ longestOtherAnswer ≤ length (now output) ⌝ }
     ensures { λ r. ⌜ WritesReply (certificateReply certificate) (now (output .entry)) (now (output .exit)) r ⌝ }
@@ -81,25 +63,17 @@ fn write_certificate(output: &mut [u8], certificate: Certificate) -> usize
     let initial_total = certificate.initial_total;
     let committed_total = certificate.committed_total;
     let since = certificate.since;
-    answer_bytes::write_three_words(
+    answer_bytes::write_certificate(
         output,
-        0,
         certificate.version,
         certificate.rows,
         certificate.active,
-    );
-    numbers::write1(
-        &mut output[THREE_WORDS..BALANCED_END],
         flag(certificate.balanced),
-    );
-    big_endian::write_amount(&mut output[BALANCED_END..INITIAL_END], initial_total);
-    big_endian::write_amount(&mut output[INITIAL_END..COMMITTED_END], committed_total);
-    numbers::write1(
-        &mut output[COMMITTED_END..REPRESENTABLE_END],
+        big_endian::word_of(initial_total),
+        big_endian::word_of(committed_total),
         flag(certificate.representable),
-    );
-    big_endian::write_amount(&mut output[REPRESENTABLE_END..LONGEST_OTHER_ANSWER], since);
-    LONGEST_OTHER_ANSWER
+        big_endian::word_of(since),
+    )
 }
 
 pub fn write_certified(output: &mut [u8], certified: Certified) -> usize
@@ -115,21 +89,22 @@ pub fn write_certified(output: &mut [u8], certified: Certified) -> usize
     }
 }
 
-// Version, counts and totals of the ledger; the last byte says yes.
+// A proof that is handed out says yes.
 fn write_proof(output: &mut [u8], proof: Proof) -> usize
     requires { ⌜ longestOtherAnswer ≤ length (now output) ⌝ }
     ensures { λ r. ⌜ WritesReply (proofReply proof) (now (output .entry)) (now (output .exit)) r ⌝ }
 {
     let initial_total = proof.initial_total;
     let committed_total = proof.committed_total;
-    answer_bytes::write_three_words(output, 0, proof.version, proof.accounts, proof.active);
-    big_endian::write_amount(&mut output[THREE_WORDS..PROVED_INITIAL_END], initial_total);
-    big_endian::write_amount(
-        &mut output[PROVED_INITIAL_END..PROVED_COMMITTED_END],
-        committed_total,
-    );
-    numbers::write1(&mut output[PROVED_COMMITTED_END..PROOF_SIZE], 1);
-    PROOF_SIZE
+    answer_bytes::write_proof(
+        output,
+        proof.version,
+        proof.accounts,
+        proof.active,
+        big_endian::word_of(initial_total),
+        big_endian::word_of(committed_total),
+        1,
+    )
 }
 
 pub fn write_proved(output: &mut [u8], proved: Proved) -> usize

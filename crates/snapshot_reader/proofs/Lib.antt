@@ -3,3 +3,4 @@ pub mod Header
 pub mod Passing
 pub mod Rows
 pub mod Towards
+pub mod Checking

@@ -3,13 +3,13 @@
 use mathlib.Core.Path.{_≡_, refl, sym, _∙_, ap, subst}
 use mathlib.Core.List.{List, [], _∷_}
 use mathlib.Core.Option.{none, some}
-use Prim.Native.Nat.{ℕ, _+_, _-_, _≤_, _<_}
+use Prim.Native.Nat.{ℕ, zero, suc, _+_, _-_, _≤_, _<_}
 use native.Mathlib.Omega.{arith}
 use borrow.Author.Tests.{ltb-true, ltb-false, lt-ltb, le-ltb}
 use lib.Dec.{ltb}
 use lib.IntN.{ℤ}
 use lib.ListN.{length, take, drop, getD, length-drop}
-use lib.Seq.{getD-drop, drop-drop}
+use lib.Seq.{getD-drop, drop-drop, length-take-le}
 use Rattle.rules.specs.SnapshotsMigrationCertificates.{Row, Reader, reads, goOn, _>>=_, numberFrom, numberOf, signed, readPart, readNumber, readAmount, readName, readRow}
 use Rattle.rules.proofs.Tests.{by-bool}
 use Rattle.rules.proofs.Reading.{after}
@@ -66,15 +66,26 @@ pub amount-takes : (bs : List ℕ) (from to : ℕ) → to ≡ from + 8 → Takes
 unfolding readAmount
 amount-takes bs from to e = takes-then _ (number-takes bs from to 8 e) (omega arith) (takes-nothing bs to (amountAt from bs))
 
-first-byte : (bs : List ℕ) → numberOf (take 1 bs) ≡ getD bs 0 0
+pub byte-at : (place : ℕ) (bs : List ℕ) → numberOf (take 1 (drop place bs)) ≡ getD bs place 0
 unfolding numberFrom
-first-byte [] = refl
-first-byte (b ∷ bs) = omega arith
+byte-at zero [] = refl
+byte-at (suc place) [] = refl
+byte-at zero (b ∷ bs) = omega arith
+byte-at (suc place) (b ∷ bs) = byte-at place bs
+
+-- a name starts behind its length
+module _ (bs : List ℕ) (from start end : ℕ) (starts : start ≡ from + 1) (ends : end ≡ start + getD bs from 0) where
+  pub name-takes-from : Takes bs from end readName (take (end - start) (drop start bs))
+  unfolding readName
+  name-takes-from =
+      let size : numberOf (take 1 (drop from bs)) ≡ end - start = byte-at from bs ∙ omega arith in
+      takes-then readPart (subst (Takes bs from start (readNumber 1)) size (number-takes bs from start 1 starts)) (omega arith) (part-takes bs start end (end - start) (omega arith))
 
 pub name-takes : (bs : List ℕ) → Takes bs 0 (1 + getD bs 0 0) readName (take (getD bs 0 0) (drop 1 bs))
-unfolding readName
-name-takes bs = subst (λ n. Takes bs 0 (1 + n) readName (take n (drop 1 bs))) (first-byte bs)
-    (takes-then readPart (number-takes bs 0 1 1 refl) (omega arith) (part-takes bs 1 (1 + numberOf (take 1 bs)) (numberOf (take 1 bs)) refl))
+name-takes bs =
+    let n = getD bs 0 0 in
+    let size : 1 + n - 1 ≡ n = omega arith in
+    subst (λ k. Takes bs 0 (1 + n) readName (take k (drop 1 bs))) size (name-takes-from bs 0 1 (1 + n) refl refl)
 
 -- the row that stands at the front of bytes, by its parts
 abbrev pub rowAtFront : List ℕ → Row
@@ -95,6 +106,9 @@ row-takes bs =
 
 pub row-long : (bs : List ℕ) → shortestRow + getD bs 0 0 ≤ length bs → readRow bs ≡ some (record { value = rowAtFront bs; rest = drop (shortestRow + getD bs 0 0) bs })
 row-long bs h = row-takes bs .long h
+
+pub name-size : (bs : List ℕ) → shortestRow + getD bs 0 0 ≤ length bs → length (rowAtFront bs .name) ≡ getD bs 0 0
+name-size bs h = length-take-le (getD bs 0 0) (drop 1 bs) (omega (arith, length-drop 1 bs))
 
 pub row-short : (bs : List ℕ) → length bs < shortestRow + getD bs 0 0 → readRow bs ≡ none
 row-short bs h = row-takes bs .short (omega arith) h

@@ -9,7 +9,7 @@ use native.Mathlib.Omega.{arith}
 use borrow.Author.Tests.{ltb-false, ltb-true}
 use lib.Dec.{ltb}
 use lib.ListN.{length, getD, take, drop, length-drop}
-use lib.Seq.{drop-drop, length-take-le, append-snoc}
+use lib.Seq.{drop-drop, append-snoc}
 use Rattle.rules.specs.Lists.{sum}
 use Rattle.rules.specs.SnapshotsMigrationCertificates.{Row, Reading, goOn, reads, readRow, readRows, numberOf, signed, hasLongName}
 use Rattle.rules.proofs.Tests.{by-bool, by-option, none-some}
@@ -19,7 +19,7 @@ use Rattle.rules.proofs.SnapshotBytes.{rowLength}
 use Rattle.rules.specs.RoomAndSoundLedger.{longestName}
 use Rattle.big_endian.specs.Layout.{rowAmounts, shortestRow}
 use Rattle.snapshot_reader.specs.Standing.{RowsFrom, RowStands, OfRow, ShortNames, RowOf, Passed, EndsName}
-use Rattle.snapshot_reader.proofs.RowBytes.{amountAt, rowAtFront, row-short, row-long, front-byte}
+use Rattle.snapshot_reader.proofs.RowBytes.{amountAt, rowAtFront, row-short, row-long, name-size, front-byte}
 
 -- ── the row that starts at a byte ──────────────────────────────────────────────────────────────
 
@@ -70,8 +70,8 @@ first-row {bs} {at} {row} {later} h =
     let room : shortestRow + getD part 0 0 ≤ length part = has-room part row later p in
     let left : length part ≡ length bs - at = length-drop at bs in
     let both : after (rowAtFront part) (drop (shortestRow + getD part 0 0) part) ≡ after row (p .rest) = cc (sym (row-long part room) ∙ p .first) in
-    let name : take (getD part 0 0) (drop 1 part) ≡ row .name = ap (λ r. r .value .name) both in
-    let size : getD part 0 0 ≡ length (row .name) = sym (length-take-le (getD part 0 0) (drop 1 part) (omega (arith, length-drop 1 part))) ∙ ap length name in
+    let name : rowAtFront part .name ≡ row .name = ap (λ r. r .value .name) both in
+    let size : getD part 0 0 ≡ length (row .name) = sym (name-size part room) ∙ ap length name in
     let further : at + (shortestRow + getD part 0 0) ≡ at + shortestRow + length (row .name) = omega arith in
     let rest : drop (at + shortestRow + length (row .name)) bs ≡ p .rest = ap (λ k. drop k bs) (sym further) ∙ sym (drop-drop (shortestRow + getD part 0 0) at bs) ∙ ap (λ r. r .rest) both in
     record {

@@ -1,15 +1,22 @@
 -- A supplied snapshot, read where it stands in the lent bytes: no row is copied to be read.
 use mathlib.Core.Path.{_≡_}
-use mathlib.Core.Bool.{Bool, true, false}
+use mathlib.Core.Bool.{Bool, true, false, cond}
 use mathlib.Core.List.{List, [], _∷_, _++_}
 use mathlib.Core.Option.{Option, none, some}
-use Prim.Native.Nat.{ℕ, _+_, _≤_}
-use lib.ListN.{length, take, drop}
+use Prim.Native.Nat.{ℕ, _+_, _≤_, _<_}
+use lib.ListN.{length, getD, take, drop}
 use Rattle.rules.specs.SnapshotsMigrationCertificates.{Row, Snapshot, Reading, readRows, snapshotOfBytes, hasLongName}
 use Rattle.big_endian.specs.Layout.{rowAmounts}
 use Rattle.snapshot_reader.specs.declared.StandingRow.{StandingRow}
 use Rattle.snapshot_reader.specs.declared.RowEnd.{RowEnd}
-use Rattle.snapshot_reader.specs.declared.RowEnd.the-variants.{At, BadFrame}
+use Rattle.snapshot_reader.specs.declared.RowEnd.the-variants.{At, Missing}
+use Rattle.snapshot_reader.specs.declared.Checked.{Checked}
+use Rattle.snapshot_reader.specs.declared.Checked.the-variants.{Passes, NameTooLong, BadFrame}
+
+-- what bytes come to that are this snapshot, or none: 23 before 19
+abbrev pub checkedAs : Option Snapshot → Checked
+checkedAs none = BadFrame
+checkedAs (some s) = cond (hasLongName (s .rows)) NameTooLong Passes
 
 -- whether bytes are a snapshot
 abbrev pub isRead : Option Snapshot → Bool
@@ -65,15 +72,17 @@ pub record Passed (bs : List ℕ) (all : List Row) (at : ℕ) (So-far : (earlier
   pub from : RowsFrom bs at later
   pub so-far : So-far earlier later
 
--- the end of the row that starts here: the bytes after it are what the rules' reader leaves
+-- the end of the row that starts here: its first byte is its name's length, and the bytes after it are what the rules' reader leaves
 pub record EndsRow (bs : List ℕ) (at : ℕ) (r : Reading Row) (end : ℕ) : Type 0 where
+  pub further : at < end
   pub within : end ≤ length bs
+  pub size : getD bs at 0 ≡ length (r .value .name)
   pub rest : drop end bs ≡ r .rest
 
 abbrev pub RowEnds : List ℕ → ℕ → Option (Reading Row) → RowEnd → Type 0
-RowEnds bs at none r = r ≡ BadFrame
+RowEnds bs at none r = r ≡ Missing
 RowEnds bs at (some reading) (At end) = EndsRow bs at reading end
-RowEnds bs at (some reading) BadFrame = ⊥
+RowEnds bs at (some reading) Missing = ⊥
 
 -- where the name of a row ends: it starts after its length, and four amounts of 8 bytes follow it
 pub record EndsName (bs : List ℕ) (at : ℕ) (r : Row) (later : List Row) (end : ℕ) : Type 0 where

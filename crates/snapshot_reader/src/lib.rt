@@ -4,7 +4,7 @@ ghost use Prim.Native.Nat.{_≤_};
 ghost use lib.ListN.{length, drop};
 ghost use mathlib.Core.Path.{_≡_};
 ghost use Rattle.rules.specs.SnapshotsMigrationCertificates.{readRow, snapshotOfBytes, hasLongName};
-ghost use Rattle.snapshot_reader.specs.Standing.{isRead, IsSnapshot, RowStands, OfRow, RowEnds, EndsName, ReadsRow, OfSnapshot};
+ghost use Rattle.snapshot_reader.specs.Standing.{checkedAs, isRead, IsSnapshot, RowStands, OfRow, RowEnds, EndsName, ReadsRow, OfSnapshot};
 
 // As wide as what is read: a row count, and a name's length.
 const MOST_ROWS: u64 = rules::MOST_NAMES as u64;
@@ -23,6 +23,13 @@ pub struct StandingRow {
 
 enum RowEnd {
     At(usize),
+    Missing,
+}
+
+// What stands in the way of a supplied snapshot before any rule is asked (document 01, "Frames"): 23 comes before 19.
+pub enum Checked {
+    Passes,
+    NameTooLong,
     BadFrame,
 }
 
@@ -32,36 +39,56 @@ fn row_end(bytes: &[u8], at: usize) -> RowEnd
 {
     let left = bytes.len() - at;
     if left == 0 {
-        return RowEnd::BadFrame;
+        return RowEnd::Missing;
     }
     let size = rules::SHORTEST_ROW + bytes[at] as usize;
     if left < size {
-        return RowEnd::BadFrame;
+        return RowEnd::Missing;
     }
     RowEnd::At(at + size)
 }
 
-// Whether bytes are a snapshot: every row that the count promises is there, nothing stands behind them, and they are no more than a ledger has names. One
-// pass over the rows, which looks at the length of each name alone.
-pub fn is_snapshot(bytes: &[u8]) -> bool
-    ensures { λ r. ⌜ r ≡ isRead (snapshotOfBytes (now (bytes .entry))) ⌝ }
+// Whether bytes are a snapshot: every row that the count promises is there, nothing stands behind them, and they are no more than a ledger has names; and
+// whether no name is longer than a place could hold. One pass over the rows, which looks at the length of each name alone. A long name does not end it: bytes
+// that are no snapshot have no names.
+pub fn check(bytes: &[u8]) -> Checked
+    ensures { λ r. ⌜ r ≡ checkedAs (snapshotOfBytes (now (bytes .entry))) ⌝ }
 {
     if bytes.len() < rules::SNAPSHOT_HEADER {
-        return false;
+        return Checked::BadFrame;
     }
     let mut left = big_endian::read2(&bytes[rules::COUNT_START..rules::SNAPSHOT_HEADER]);
     if MOST_ROWS < left {
-        return false;
+        return Checked::BadFrame;
     }
     let mut at = rules::SNAPSHOT_HEADER;
+    let mut long = false;
     while 0 < left {
         let RowEnd::At(end) = row_end(bytes, at) else {
-            return false;
+            return Checked::BadFrame;
         };
+        long = long | (LONGEST_NAME < bytes[at]);
         at = end;
         left -= 1;
     }
-    at == bytes.len()
+    if at < bytes.len() {
+        return Checked::BadFrame;
+    }
+    if long {
+        return Checked::NameTooLong;
+    }
+    Checked::Passes
+}
+
+pub fn is_snapshot(bytes: &[u8]) -> bool
+    ensures { λ r. ⌜ r ≡ isRead (snapshotOfBytes (now (bytes .entry))) ⌝ }
+{
+    let checked = check(bytes);
+    match checked {
+        Checked::Passes => true,
+        Checked::NameTooLong => true,
+        Checked::BadFrame => false,
+    }
 }
 
 pub fn version(bytes: &[u8]) -> u64

@@ -10,9 +10,9 @@ use lib.Pow.{pow-pos, pow-add}
 use lib.Seq.{getD-take, getD-drop}
 use Rattle.rules.specs.Lists.{All}
 use Rattle.rules.specs.RoomAndSoundLedger.{IsByte}
+use Rattle.rules.proofs.Tests.{less-or-not}
 use Rattle.names.proofs.Words.{ClearFrom}
 use Rattle.numbers.specs.LittleEndian.{littleNumber}
-use Rattle.soundness.proofs.Deciding.{less-or-not}
 
 byte-more : (n : ℕ) → 2 ^ (8 * suc n) ≡ 2 ^ (8 * n) * 256
 byte-more n = ap (λ m. 2 ^ m) (mul-suc 8 n) ∙ pow-add 2 (8 * n) 8

@@ -1,12 +1,12 @@
 -- Answers that decide something: made of a fact, of a refutation, of a test, and put to use.
 use mathlib.Core.Path.{_≡_, refl}
-use mathlib.Core.Logic.{_⊎_, inl, inr, _≢_}
+use mathlib.Core.Logic.{_≢_}
 use mathlib.Core.Bool.{Bool, true, false, not}
 use Prim.Native.Nat.{ℕ, _≤_, _<_}
 use native.Mathlib.Omega.{arith}
 use lib.Dec.{leb, ltb, eqb}
 use borrow.Author.Tests.{leb-true, leb-false, ltb-true, ltb-false, eqb-true, eqb-false, not-true, not-false}
-use Rattle.rules.proofs.Tests.{by-bool, true-false}
+use Rattle.rules.proofs.Tests.{true-false}
 use Rattle.soundness.specs.Facts.{Decides}
 use Rattle.soundness.specs.Steps.{Leaves}
 
@@ -48,6 +48,3 @@ module _ {P Q : Type 0} where
 
   pub leave-none : (P → ⊥) → Leaves P Q false
   leave-none n = record { suffices = λ e. true-false e refl; needed = λ e. true-false e refl; fails = λ _. n }
-
-pub less-or-not : (m n : ℕ) → (m < n) ⊎ (n ≤ m)
-less-or-not m n = by-bool (λ _. (m < n) ⊎ (n ≤ m)) (ltb m n) (λ e. inl (ltb-true m n e)) (λ e. inr (ltb-false m n e))

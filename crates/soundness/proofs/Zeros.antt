@@ -8,13 +8,13 @@ use native.Mathlib.Omega.{arith}
 use lib.ListN.{length, getD, take, drop, replicate, length-replicate, List·getD-eq-default}
 use Rattle.rules.specs.Lists.{All}
 use Rattle.rules.specs.RoomAndSoundLedger.{IsByte}
+use Rattle.rules.proofs.Tests.{less-or-not}
 use Rattle.names.proofs.Storing.{getD-repeat, drop-repeat, is-repeat}
 use Rattle.numbers.proofs.Bytes.{all-repeat}
 use Rattle.records.specs.Rows.{row, rows, table}
 use Rattle.records.proofs.Rows.{row-length, rows-within, joined, table-drop, Readable, rows-joined, zeros-joined}
 use Rattle.records.proofs.Room.{table-bytes}
 use Rattle.soundness.specs.Steps.{ZeroBelow}
-use Rattle.soundness.proofs.Deciding.{less-or-not}
 
 abbrev pub zeros : ℕ → List ℕ
 zeros n = replicate n 0

@@ -12,7 +12,7 @@ use lib.Seq.{take-at, append-snoc}
 use Rattle.rules.specs.AnswerNumbers.{Lent, sound, unsound}
 use Rattle.rules.specs.Frames.{Operation, lineFeed, answerLine, answerOr23, answerToLine, operationOfLine, answersToLines, lentAfter}
 use Rattle.rules.proofs.EveryLine.{answers-append, lent-append}
-use Rattle.soundness.proofs.Deciding.{less-or-not}
+use Rattle.rules.proofs.Tests.{less-or-not}
 use Rattle.frames.specs.Answering.{IsLent, OfLent}
 use Rattle.frames.proofs.Arms.{room-bounds}
 use Rattle.lines.specs.Batching.{IsLine, lineRoom, withFeeds, AnswersLine, Batches}

@@ -11,7 +11,7 @@ use lib.Seq.{take-all, take-append-le}
 use Rattle.rules.specs.Lists.{All}
 use Rattle.rules.specs.Frames.{lineFeed}
 use Rattle.rules.proofs.Lists.{all-more}
-use Rattle.numbers.proofs.Bytes.{all-join}
+use Rattle.rules.proofs.Lists.{all-join}
 use Rattle.lines.specs.Batching.{IsLine, withFeeds}
 use Rattle.lines.proofs.Stretch.{feeds-append, feeds-end}
 use Rattle.turns.specs.Turns.{Reads, MakesRoom}

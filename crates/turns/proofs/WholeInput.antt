@@ -13,7 +13,7 @@ use Rattle.rules.specs.Lists.{All}
 use Rattle.rules.specs.AnswerNumbers.{Lent, Answered}
 use Rattle.rules.specs.Frames.{lineFeed, longestLine, operationOfLine, answerLine, answerOr23, answerToLine, answersToLines, lentAfter, pieces, counted, linesOf}
 use Rattle.rules.proofs.EveryLine.{answers-append, lent-append, first-piece, counted-more}
-use Rattle.soundness.proofs.Deciding.{less-or-not}
+use Rattle.rules.proofs.Tests.{less-or-not}
 use Rattle.frames.specs.Answering.{IsLent}
 use Rattle.lines.specs.Batching.{IsLine, withFeeds, AnswersLine}
 use Rattle.lines.proofs.Decoded.{too-long}

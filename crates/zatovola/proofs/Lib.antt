@@ -2,3 +2,4 @@ pub mod HandedOver
 pub mod RoomSize
 pub mod SameAnswers
 pub mod SameReads
+pub mod RecorderCalls

@@ -10,8 +10,7 @@ use Rattle.rules.specs.Lists.{All}
 use Rattle.rules.specs.RoomAndSoundLedger.{IsByte, made}
 use Rattle.rules.specs.AnswerNumbers.{Lent}
 use Rattle.rules.specs.Frames.{Operation}
-use Rattle.rules.proofs.Tests.{equal-or-not}
-use Rattle.soundness.proofs.Deciding.{less-or-not}
+use Rattle.rules.proofs.Tests.{equal-or-not, less-or-not}
 use Rattle.frames.specs.Answering.{IsLent, roomFor}
 use Rattle.lines.proofs.SameAnswers.{same-after, Same, by-lent, same-told, one-batch}
 use Rattle.zatovola.specs.Interface.{bytesOfRoom, PromisesFrame, progress}

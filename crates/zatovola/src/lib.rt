@@ -1,6 +1,7 @@
 // The ledger for programs in C and Rust: numbers and lent bytes in, numbers out. In C a slice is a pointer and a length (bindings/zatovola.h). None of these
 // functions asks anything of its caller.
 mod ledger_reads;
+mod recorder_calls;
 
 use soundness::Made;
 ghost use mathlib.Core.Path.{_≡_};

@@ -12,10 +12,11 @@ use Rattle.rules.specs.Lists.{first}
 use Rattle.rules.specs.RoomAndSoundLedger.{Name}
 use Rattle.rules.specs.AccountRules.{AccountOperation, ensure, topUp, limit, reserve}
 use Rattle.rules.specs.SnapshotsMigrationCertificates.{numberOf, signed}
-use Rattle.rules.specs.Frames.{onAccount, nameAndAmount, codes, operationOf}
+use Rattle.rules.specs.Frames.{onAccount, codes, operationOf}
 use Rattle.snapshot_reader.proofs.RowBytes.{amountAt}
 use Rattle.frame_reader.specs.Operations.{nameStart, nameIn}
-use Rattle.frame_reader.proofs.Codes.{bodyWith}
+use Rattle.rules.proofs.Fields.{bodyWith}
+use Rattle.frame_reader.proofs.Codes.{nameAndAmount}
 use Rattle.frame_reader.proofs.Sized.{naming}
 use Rattle.frame_reader.proofs.read_named.Statement.{statement}
 use Rattle.frame_reader.proofs.read_named.Tie as tie

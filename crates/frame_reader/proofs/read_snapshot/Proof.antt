@@ -11,10 +11,11 @@ use borrow.Author.Tests.{not-true, not-false}
 use lib.ListN.{length, drop, getD}
 use Rattle.rules.specs.Lists.{first}
 use Rattle.rules.specs.SnapshotsMigrationCertificates.{Snapshot, snapshotOfBytes}
-use Rattle.rules.specs.Frames.{Operation, restoreFrom, recoverFrom, judge, aSnapshot, codes, operationOf}
+use Rattle.rules.specs.Frames.{Operation, restoreFrom, recoverFrom, judge, codes, operationOf}
 use Rattle.snapshot_reader.specs.Standing.{isRead}
 use Rattle.frame_reader.specs.Operations.{supplied, StandsFrom}
-use Rattle.frame_reader.proofs.Codes.{otherwise, bodyWith}
+use Rattle.rules.proofs.Fields.{bodyWith}
+use Rattle.frame_reader.proofs.Codes.{otherwise, snapshotFor}
 use Rattle.frame_reader.proofs.Supplied.{tested, stands, refused, after-code}
 use Rattle.frame_reader.proofs.read_snapshot.Statement.{statement}
 use Rattle.frame_reader.proofs.read_snapshot.Tie as tie
@@ -43,7 +44,7 @@ module _ (c : tie.Else1) where
   is-read : isRead (snapshotOfBytes (drop 1 bytes)) ≡ true
   is-read = tested bytes 1 (c .before .is-snapshot .ensures) ∙ not-false (c .before .is-snapshot .result) (c .if1 .left)
 
-  fit : (number : ℕ) → start .args .code ≡ number → (operation : Snapshot → Operation) → bodyWith number ≡ aSnapshot operation
+  fit : (number : ℕ) → start .args .code ≡ number → (operation : Snapshot → Operation) → bodyWith number ≡ snapshotFor operation
       → (supplied operation (snapshotOfBytes (drop 1 bytes)) ≡ operationOf bytes) × StandsFrom 1 bytes
   fit number k operation is =
       let ((h, e), one) = start .pre in

@@ -7,7 +7,7 @@ use lib.ListN.{length, getD, set, replicate, length-set}
 use lib.Seq.{take-length}
 use Rattle.rules.specs.RoomAndSoundLedger.{longestName}
 use Rattle.names.specs.Names.{stored}
-use Rattle.names.proofs.Copying.{copied, copied-turn}
+use Rattle.numbers.proofs.Copying.{copied, copied-turn}
 use Rattle.names.proofs.Storing.{drop-repeat}
 use Rattle.names.proofs.name_of.Statement.{statement}
 use Rattle.names.proofs.name_of.Tie as tie

@@ -4,7 +4,7 @@ use mathlib.Core.Path.{_≡_, refl, ap, _∙_}
 use native.Mathlib.Omega.{arith}
 use lib.ListN.{length, getD, set, length-set}
 use Rattle.rules.specs.RoomAndSoundLedger.{longestName}
-use Rattle.names.proofs.Copying.{copied, copied-turn, copied-all}
+use Rattle.numbers.proofs.Copying.{copied, copied-turn, copied-all}
 use borrow.Author.Needs.{needs}
 use Rattle.records.proofs.name_bytes.Statement.{statement}
 use Rattle.records.proofs.name_bytes.Tie as tie

@@ -9,6 +9,7 @@ use borrow.Author.Needs.{needs}
 use lib.ListN.{getD, List·getD-eq-default}
 use Rattle.rules.specs.Lists.{All}
 use Rattle.rules.specs.RoomAndSoundLedger.{IsByte, longestName}
+use Rattle.rules.proofs.Tests.{less-or-not}
 use Rattle.names.proofs.Words.{ClearFrom}
 use Rattle.numbers.specs.LittleEndian.{littleNumber}
 use Rattle.numbers.proofs.Bytes.{all-bytes}
@@ -17,7 +18,7 @@ use Rattle.records.proofs.Fields.{row-bytes}
 use Rattle.soundness.specs.Facts.{Decides}
 use Rattle.soundness.specs.Steps.{placeAt}
 use Rattle.soundness.proofs.ClearBytes.{small-clear, clear-small, part-clear, clear-part}
-use Rattle.soundness.proofs.Deciding.{accept, refuse, by-answer, refused, accepted, less-or-not}
+use Rattle.soundness.proofs.Deciding.{accept, refuse, by-answer, refused, accepted}
 use Rattle.soundness.proofs.NameBytes.{name-at-bytes}
 use Rattle.soundness.proofs.Standing.{bytes-width}
 use Rattle.soundness.proofs.name_sound.Statement.{statement}

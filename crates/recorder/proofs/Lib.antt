@@ -1,0 +1,9 @@
+pub mod Fitting
+pub mod OperationFrames
+pub mod AnswerTable
+pub mod AnswerWords
+pub mod Places
+pub mod SnapshotPlace
+pub mod Answered
+pub mod AnswerLine
+pub mod SameResults

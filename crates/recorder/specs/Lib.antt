@@ -1,0 +1,5 @@
+pub mod AnswerWords
+pub mod Recording
+pub mod Refusals
+pub mod Shapes
+pub mod Reading
