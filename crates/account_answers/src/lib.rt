@@ -1,4 +1,7 @@
 // The answers of the account operations as document 01 writes them: each enum's cases by number, then what they carry.
+
+#![tactic(auto)]
+
 ghost use Rattle.std.specs.Prelude.{◌≤◌, length};
 ghost use Rattle.accounts.specs.Answers.{ensured_reply, topped_up_reply, limited_reply};
 ghost use Rattle.reservations.specs.Answers.{reserved_reply, committed_reply, released_reply};

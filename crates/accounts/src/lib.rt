@@ -1,4 +1,7 @@
 // Ensure, top-up and limit on a ledger already known to be sound, which they leave sound: a batch checks once and runs many.
+
+#![tactic(auto)]
+
 ghost use Rattle.rules.specs.AccountRules.{ensure, top_up, limit, operate};
 ghost use Rattle.room.specs.Room.{SoundRoom, Performs};
 ghost use Rattle.accounts.specs.Answers.{ensured_reply, topped_up_reply, limited_reply};
@@ -8,7 +11,7 @@ use numbers::{Microcents, Positive, Sign};
 use seats::Written;
 
 // UnsoundLedger is given by the operations on any memory that stand above these.
-#[derive(Drop)]
+#[derive(Clone, Copy)]
 pub enum Ensured {
     Done,
     NegativeAmount(Microcents),
@@ -17,7 +20,7 @@ pub enum Ensured {
     UnsoundLedger,
 }
 
-#[derive(Drop)]
+#[derive(Clone, Copy)]
 pub enum ToppedUp {
     Done(Microcents, Microcents, Microcents),
     InvalidAmount,
@@ -27,7 +30,7 @@ pub enum ToppedUp {
     UnsoundLedger,
 }
 
-#[derive(Drop)]
+#[derive(Clone, Copy)]
 pub enum Limited {
     Done,
     NegativeAmount(Microcents),

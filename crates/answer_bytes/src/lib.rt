@@ -1,5 +1,8 @@
 // The shapes that answers have (document 01, "Frames"), each written to the front of the output: the number's byte, and behind it numbers of eight bytes, a
 // name with its length in front, a field's byte.
+
+#![tactic(auto)]
+
 ghost use Rattle.std.specs.Prelude.{[], ◌∷◌, ◌+◌, ◌≤◌, length};
 ghost use Rattle.rules.specs.RoomAndSoundLedger.{longest_name};
 ghost use Rattle.rules.specs.AnswerNumbers.{Value, TheName, reply};

@@ -1,5 +1,8 @@
 // The ledger in lent memory, for any caller: any memory, any bytes as a name, any 64-bit amount. Each operation asks first whether the memory is the
 // room of a sound ledger, answers UnsoundLedger and changes nothing where it is not, and else is the operation of the rules.
+
+#![tactic(auto)]
+
 ghost use Rattle.rules.specs.AccountRules.{ensure, top_up, limit, reserve, commit, release, operate};
 ghost use Rattle.accounts.specs.Answers.{ensured_reply, topped_up_reply, limited_reply};
 ghost use Rattle.reservations.specs.Answers.{reserved_reply, committed_reply, released_reply};
@@ -13,19 +16,19 @@ use numbers::{Identifier, Microcents};
 use reads::{Reading, Total};
 use reservations::{Committed, Released, Reserved};
 
-#[derive(Drop)]
+#[derive(Clone, Copy)]
 pub enum Counted {
     Count(u64),
     UnsoundLedger,
 }
 
-#[derive(Drop)]
+#[derive(Clone, Copy)]
 pub enum Versioned {
     Version(u64),
     UnsoundLedger,
 }
 
-#[derive(Drop)]
+#[derive(Clone, Copy)]
 pub enum Since {
     Amount(Microcents),
     UnsoundLedger,

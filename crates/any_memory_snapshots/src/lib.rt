@@ -1,5 +1,8 @@
 // Snapshots for any caller: any memory as a ledger, any bytes as a snapshot, any output. Bytes that are no snapshot are 23, memory that is no sound
 // ledger 24, and else each is the operation of the rules. Migration, the status and the certificate of a supplied snapshot take no ledger.
+
+#![tactic(auto)]
+
 ghost use Rattle.std.specs.Prelude.{◌≡◌, length};
 ghost use Rattle.rules.specs.SnapshotsMigrationCertificates.{snapshot_of_bytes, snapshot, restore, recovery_restore, migrate, status, certificate_of_snapshot, certificate_of_ledger, conservation_proof, output_after};
 ghost use Rattle.room.specs.Room.{Answers};

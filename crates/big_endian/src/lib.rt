@@ -1,5 +1,8 @@
 // Numbers as frames and snapshots write them: big-endian in eight or two bytes, amounts in two's complement. And a version's tag and fence, by mask.
 // specs/ has the sizes of a snapshot's parts, for the crates that read and write one.
+
+#![tactic(auto)]
+
 ghost use Rattle.std.specs.Prelude.{◌≤◌, length, ◌≡◌};
 ghost use Rattle.rules.specs.RoomAndSoundLedger.{M, has_tag, fence_of};
 ghost use Rattle.rules.specs.SnapshotsMigrationCertificates.{bytes_of, number_of, twos_complement, signed, amount_bytes, tagged};

@@ -1,5 +1,8 @@
 // The calls whose answers are bytes. Each function answers some operations, in the order of its list: it writes the answer to the front of the room for
 // it and says how many bytes it takes, or 0 where the operation is not in the list.
+
+#![tactic(auto)]
+
 use answer_bytes::LONGEST_OTHER_ANSWER;
 use any_memory_accounts::{Counted, Since};
 use case_text::text;

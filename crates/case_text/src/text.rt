@@ -10,7 +10,7 @@ const LARGEST_FRONT: u64 = 1000000000000000000;
 // How far the least amount is below zero.
 const LARGEST_NEGATIVE: u64 = rules::M + 1;
 
-#[derive(Drop)]
+#[derive(Clone, Copy)]
 struct Number {
     given: bool,
     value: u64,
@@ -18,7 +18,7 @@ struct Number {
 
 // What stands between a line's first and last space, as a number; what stands behind the last, as a number, and as an amount in two's complement; and
 // whether each is one.
-#[derive(Drop)]
+#[derive(Clone, Copy)]
 pub struct Numbers {
     pub first: u64,
     pub second: u64,
@@ -29,7 +29,7 @@ pub struct Numbers {
 }
 
 // Where the words before the last one end, and where the last one begins.
-#[derive(Drop)]
+#[derive(Clone, Copy)]
 pub struct Pair {
     pub end: usize,
     pub last: usize,

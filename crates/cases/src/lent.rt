@@ -5,7 +5,7 @@ use case_text::text::Numbers;
 const LARGEST_BYTE: u64 = 255;
 
 // So many bytes at the front of each array are lent. `silent` says of the last line that it was one of these.
-#[derive(Drop)]
+#[derive(Clone, Copy)]
 pub struct Lent {
     pub memory: usize,
     pub supplied: usize,

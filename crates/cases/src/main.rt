@@ -29,6 +29,9 @@
 //   batch SIZE                           the supplied bytes come in pieces of this size, and what a batch leaves comes again with the next
 //
 // Any other line, or one with a number missing or out of range, is written behind `?? `.
+
+#![tactic(auto)]
+
 mod case;
 mod lent;
 

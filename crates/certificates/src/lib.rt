@@ -1,5 +1,8 @@
 // Certificates, and the conservation proof: over a supplied snapshot already known to be one, and over a ledger already known to be sound. Of the ledger no
 // snapshot is written: its totals are added up over the places, and only its head changes.
+
+#![tactic(auto)]
+
 ghost use Rattle.std.specs.Prelude.{◌≡◌, List, ℕ, pos, length};
 ghost use Rattle.rules.specs.SnapshotsMigrationCertificates.{Row, Snapshot, account_rows, conservation, committed_rows_total, totals_fit, is_none, certificate, certificate_of_snapshot, certificate_of_ledger, conservation_proof};
 ghost use Rattle.snapshot_reader.specs.Standing.{IsSnapshot, ShortNames, OfSnapshot};
@@ -13,7 +16,7 @@ use records::Head;
 use totals::{Fitted, Total};
 use validation::Verdict;
 
-#[derive(Drop)]
+#[derive(Clone, Copy)]
 pub struct Certificate {
     pub version: u64,
     pub rows: u64,
@@ -25,7 +28,7 @@ pub struct Certificate {
     pub since: Microcents,
 }
 
-#[derive(Drop)]
+#[derive(Clone, Copy)]
 pub enum Certified {
     Certificate(Certificate),
     AllocatorExhausted,
@@ -34,7 +37,7 @@ pub enum Certified {
     UnsoundLedger,
 }
 
-#[derive(Drop)]
+#[derive(Clone, Copy)]
 pub struct Proof {
     pub version: u64,
     pub accounts: u64,
@@ -43,7 +46,7 @@ pub struct Proof {
     pub committed_total: Microcents,
 }
 
-#[derive(Drop)]
+#[derive(Clone, Copy)]
 pub enum Proved {
     Proof(Proof),
     AllocatorExhausted,
@@ -52,14 +55,14 @@ pub enum Proved {
 }
 
 // The initial total and the committed total, where both fit.
-#[derive(Drop)]
+#[derive(Clone, Copy)]
 enum Totals {
     Fit(Microcents, Microcents),
     Outside,
 }
 
 // What the ledger's own snapshot says beside its rows.
-#[derive(Drop)]
+#[derive(Clone, Copy)]
 struct Summary {
     head: Head,
     rows: u64,
@@ -67,7 +70,7 @@ struct Summary {
     totals: Totals,
 }
 
-#[derive(Drop)]
+#[derive(Clone, Copy)]
 enum Summarized {
     Taken(Summary),
     AllocatorExhausted,

@@ -1,4 +1,7 @@
 // Lowercase hexadecimal: a line of digits to bytes, and bytes to a line of digits.
+
+#![tactic(auto)]
+
 mod table;
 
 ghost use Rattle.std.specs.Prelude.{◌≡◌, ◌++◌, ◌*◌, ◌+◌, ◌≤◌, ◌<◌, length, take, drop};
@@ -9,7 +12,7 @@ ghost use Rattle.digits.specs.Decoding.{Decodes, FrontDecoded};
 use crate::table::{CHARACTER, DIGIT};
 
 // What a line comes to: so many bytes, or no frame.
-#[derive(Drop)]
+#[derive(Clone, Copy)]
 pub enum Decoded {
     Bytes(usize),
     BadFrame,

@@ -1,5 +1,8 @@
 // A snapshot that has passed every check, put in the place of all that a room holds: the room is made anew at its own sizes, so live reservations and limits
 // are cleared with the rest, the rows are put into it, and the head is written last.
+
+#![tactic(auto)]
+
 ghost use Rattle.std.specs.Prelude.{◌≡◌, true, false, ◌+◌, ◌≤◌, min, length};
 ghost use Rattle.rules.specs.RoomAndSoundLedger.{M, is_vacant, with_places, fresh, longest_name};
 ghost use Rattle.rules.specs.AccountRules.{natural, seated, has_room};

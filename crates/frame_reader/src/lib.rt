@@ -1,5 +1,8 @@
 // A frame's bytes as an operation, by the codes 01 to 0e of document 01, "Frames"; what is none of them is a bad frame. A name and a snapshot are left where
 // they stand: the name from byte 2 to its end, the snapshot to the end of the frame.
+
+#![tactic(auto)]
+
 ghost use Rattle.std.specs.Prelude.{◌≡◌, ◌⊎◌, ◌≤◌};
 ghost use Rattle.rules.specs.Frames.{operation_of_frame};
 ghost use Rattle.frame_reader.specs.Operations.{operation_in, HasCode, ReadsAs, PartsWithin};
@@ -16,7 +19,7 @@ pub const NAME_START: usize = 1 + 1;
 // A migration and a certificate have the longest frames: the code, a word, a snapshot.
 pub const LONGEST_FRAME: usize = WORD_END + rules::LONGEST_SNAPSHOT;
 
-#[derive(Drop)]
+#[derive(Clone, Copy)]
 pub enum Frame {
     Ensure(usize, Microcents),
     TopUp(usize, Microcents),

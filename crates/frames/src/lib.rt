@@ -1,4 +1,7 @@
 // A frame's bytes to its answer's bytes. What is known of the memory is handed in: a batch asks once whether it is the room of a sound ledger.
+
+#![tactic(auto)]
+
 ghost use Rattle.std.specs.Prelude.{◌≡◌, List, ℕ, ◌≤◌, length};
 ghost use Rattle.std.proofs.Math.Option.{some};
 ghost use Rattle.rules.specs.AnswerNumbers.{unsound};

@@ -1,4 +1,7 @@
 // The three numbers of a ledger that stand apart from its tables: an id drawn and the baseline rotated in place, and what a snapshot stamps on them.
+
+#![tactic(auto)]
+
 ghost use Rattle.std.specs.Prelude.{◌≤◌, ◌≡◌};
 ghost use Rattle.rules.specs.RoomAndSoundLedger.{M};
 ghost use Rattle.heads.specs.Heads.{identifier_at, next_after, drawn_head, stamped_head, since_baseline, larger, rotated_head};
@@ -6,19 +9,19 @@ ghost use Rattle.heads.specs.Heads.{identifier_at, next_after, drawn_head, stamp
 use numbers::{Drawing, Identifier};
 use records::Head;
 
-#[derive(Drop)]
+#[derive(Clone, Copy)]
 pub struct Drawn {
     pub drawing: Drawing,
     pub head: Head,
 }
 
-#[derive(Drop)]
+#[derive(Clone, Copy)]
 pub enum Stamped {
     Next(Head),
     AllocatorExhausted,
 }
 
-#[derive(Drop)]
+#[derive(Clone, Copy)]
 pub struct Rotated {
     pub since: u64,
     pub head: Head,

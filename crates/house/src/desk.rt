@@ -5,7 +5,7 @@ ghost use Rattle.house.specs.Desk.{ReadyToRead};
 
 use turns::{Held, Turn};
 
-#[derive(Drop)]
+#[derive(Clone, Copy)]
 struct Desk {
     held: Held,
     going: bool,

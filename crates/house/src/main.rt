@@ -1,5 +1,8 @@
 // The desk's program: a frame's digits on each line of standard input, an answer line for each on standard output, over one fresh ledger of the largest
 // room. What one read brings is answered, every whole line of it, before the next read.
+
+#![tactic(auto)]
+
 mod desk;
 
 use records::LARGEST_ROOM;

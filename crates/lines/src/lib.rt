@@ -1,4 +1,7 @@
 // Lines of digits to answer lines: one line, or a batch that asks once whether the memory is the room of a sound ledger.
+
+#![tactic(auto)]
+
 ghost use Rattle.std.specs.Prelude.{◌≡◌, List, ◌∷◌, ◌++◌, ℕ, ◌+◌, ◌≤◌, ◌<◌, length, take, drop};
 ghost use Rattle.std.proofs.Math.Option.{none};
 ghost use Rattle.rules.specs.Frames.{longest_line, line_feed, line_of_bytes, operation_of_frame, operation_of_line};
@@ -12,27 +15,27 @@ use frames::{LONGEST_LINE, LONGEST_OTHER_LINE};
 pub const LINE_FEED: u8 = 10;
 
 // How many characters of an answer line were written, its line feed among them, or that its longest answer has no room.
-#[derive(Drop)]
+#[derive(Clone, Copy)]
 pub enum LineAnswer {
     Written(usize),
     OutputTooShort,
 }
 
-#[derive(Drop)]
+#[derive(Clone, Copy)]
 pub enum LineEnd {
     At(usize),
     Missing,
 }
 
 // What comes of an input's first line: where its line feed stands and how many characters of its answer line were written, or that none is answered.
-#[derive(Drop)]
+#[derive(Clone, Copy)]
 pub enum Next {
     Answered { end: usize, size: usize },
     Stopped,
 }
 
 // How much of the input was answered, and how much output was written.
-#[derive(Drop)]
+#[derive(Clone, Copy)]
 pub struct Progress {
     pub used: usize,
     pub written: usize,

@@ -1,4 +1,7 @@
 // Look-up in the tables of a room: a name's place, the place for a new name, a live booking by its id.
+
+#![tactic(auto)]
+
 ghost use Rattle.std.specs.Prelude.{◌+◌, ◌*◌, ◌≤◌, ◌<◌, ◌≡◌, length};
 ghost use Rattle.rules.specs.RoomAndSoundLedger.{longest_name};
 ghost use Rattle.names.specs.Names.{spelled};

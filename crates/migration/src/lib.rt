@@ -1,5 +1,8 @@
 // Migration of a supplied snapshot that is not aware of recovery: the same snapshot with a version that carries a fence. No ledger is taken. The bytes are
 // copied as they stand, and only those of the version are new.
+
+#![tactic(auto)]
+
 ghost use Rattle.std.specs.Prelude.{◌≡◌, ◌++◌, ◌≤◌, length, drop};
 ghost use Rattle.std.proofs.Math.Option.{none};
 ghost use Rattle.rules.specs.RoomAndSoundLedger.{M};

@@ -1,4 +1,7 @@
 // The account rules by value: what an airline has goes in, and what the rule decides comes out. No table is seen here.
+
+#![tactic(auto)]
+
 ghost use Rattle.std.specs.Prelude.{◌≡◌, false, ◌&&◌, ◌+◌, ◌≤◌, ◌<◌, ltb, pos};
 ghost use Rattle.std.proofs.Math.Option.{some};
 ghost use Rattle.rules.specs.RoomAndSoundLedger.{M};
@@ -10,7 +13,7 @@ ghost use Rattle.moves.specs.Moves.{SeatSound, account_of, tenant_of, exposure_o
 use numbers::{Held, Microcents, Remainder, Sign, Sum};
 
 // What a place keeps of a name beside the name: account is 1 with an account and 0 without one, and a limit of 0 is none.
-#[derive(Drop)]
+#[derive(Clone, Copy)]
 pub struct Seat {
     pub initial: u64,
     pub remaining: u64,
@@ -21,51 +24,51 @@ pub struct Seat {
 }
 
 // Whether a name has an account.
-#[derive(Drop)]
+#[derive(Clone, Copy)]
 pub enum Tenant {
     Present,
     Missing,
 }
 
-#[derive(Drop)]
+#[derive(Clone, Copy)]
 pub enum Ensuring {
     Present,
     Opened(Seat),
 }
 
-#[derive(Drop)]
+#[derive(Clone, Copy)]
 pub enum ToppingUp {
     Overflow,
     Grown(Seat),
 }
 
-#[derive(Drop)]
+#[derive(Clone, Copy)]
 pub enum Limiting {
     Negative,
     Changed(Seat),
 }
 
 // A sum of reserved amounts against a limit.
-#[derive(Drop)]
+#[derive(Clone, Copy)]
 pub enum Exposure {
     Within,
     Exceeded,
 }
 
 // Insufficient uses the id up all the same; the room for a booking is asked by the caller, last.
-#[derive(Drop)]
+#[derive(Clone, Copy)]
 pub enum Reserving {
     Insufficient,
     Booked(Seat),
 }
 
-#[derive(Drop)]
+#[derive(Clone, Copy)]
 pub enum Committing {
     Overrun,
     Ended(Seat),
 }
 
-#[derive(Drop)]
+#[derive(Clone, Copy)]
 pub enum Releasing {
     Missing,
     Returned(Seat),

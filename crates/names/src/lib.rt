@@ -1,18 +1,21 @@
 // Names: compared by their bytes, kept by value, and written with their length in front.
+
+#![tactic(auto)]
+
 ghost use Rattle.std.specs.Prelude.{◌+◌, ◌*◌, ◌≤◌, ◌<◌, ◌≡◌, length, take, drop};
 ghost use Rattle.rules.specs.Lists.{All};
 ghost use Rattle.rules.specs.RoomAndSoundLedger.{IsByte, order, same, longest_name};
 ghost use Rattle.rules.specs.SnapshotsMigrationCertificates.{number_of, name_bytes};
 ghost use Rattle.names.specs.Names.{ordering_of, is_before, spelled, stored, IsStored};
 
-#[derive(Drop)]
+#[derive(Clone, Copy)]
 pub enum Order {
     Before,
     Same,
     After,
 }
 
-#[derive(Drop)]
+#[derive(Clone, Copy)]
 pub struct Name {
     pub length: u8,
     pub bytes: [u8; rules::LONGEST_NAME],

@@ -1,4 +1,7 @@
 // Numbers: little-endian in lent bytes, and amounts of money. And bytes copied as they stand.
+
+#![tactic(auto)]
+
 ghost use Rattle.std.specs.Prelude.{◌≤◌, ◌≡◌, ◌++◌, pos, ◌-ℤ◌, length, drop};
 ghost use Rattle.rules.specs.RoomAndSoundLedger.{M};
 ghost use Rattle.rules.specs.AccountRules.{natural};
@@ -6,47 +9,47 @@ ghost use Rattle.numbers.specs.LittleEndian.{little_number, little_bytes};
 ghost use Rattle.numbers.specs.Amounts.{sum_of, sign_of, positive_of, remainder_of};
 
 // What names a reservation.
-#[derive(Drop)]
+#[derive(Clone, Copy)]
 pub struct Identifier(pub u64);
 
 // What a draw of an id answers: the id, or that they are used up.
-#[derive(Drop)]
+#[derive(Clone, Copy)]
 pub enum Drawing {
     Identifier(Identifier),
     AllocatorExhausted,
 }
 
 // An amount of money as frames carry it: it may be negative.
-#[derive(Drop)]
+#[derive(Clone, Copy)]
 pub struct Microcents(pub i64);
 
 // An amount that a reservation holds: it is never negative.
-#[derive(Drop)]
+#[derive(Clone, Copy)]
 pub struct Held(pub u64);
 
 // A sum of two amounts, which may not be above M.
-#[derive(Drop)]
+#[derive(Clone, Copy)]
 pub enum Sum {
     Fits(u64),
     AboveM,
 }
 
 // An amount by its sign. Tables hold amounts that are not negative, as unsigned numbers.
-#[derive(Drop)]
+#[derive(Clone, Copy)]
 pub enum Sign {
     Negative,
     Natural(u64),
 }
 
 // An amount by whether it is above 0, where a rule refuses 0 or less.
-#[derive(Drop)]
+#[derive(Clone, Copy)]
 pub enum Positive {
     Amount(u64),
     ZeroOrLess,
 }
 
 // What a commit's delta leaves of remaining.
-#[derive(Drop)]
+#[derive(Clone, Copy)]
 pub enum Remainder {
     Left(u64),
     Overrun,

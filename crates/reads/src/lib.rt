@@ -1,4 +1,7 @@
 // Reads on a ledger already known to be sound: the amounts of one name, and those of the whole ledger. Nothing changes.
+
+#![tactic(auto)]
+
 ghost use Rattle.std.specs.Prelude.{◌≤◌, ◌≡◌};
 ghost use Rattle.rules.specs.RoomAndSoundLedger.{M, committed_total};
 ghost use Rattle.rules.specs.AccountRules.{read_remaining, read_initial, read_committed, read_reserved, operate, read_committed_total, read_accounts, read_live, read_last_version, read_committed_since, read_ledger};
@@ -8,7 +11,7 @@ ghost use Rattle.reads.specs.Answers.{sought, summed, account_reply, reading_rep
 use moves::Seat;
 use numbers::{Microcents, Sum};
 
-#[derive(Drop)]
+#[derive(Clone, Copy)]
 pub enum Reading {
     Amount(Microcents),
     MissingTenant,
@@ -16,7 +19,7 @@ pub enum Reading {
     UnsoundLedger,
 }
 
-#[derive(Drop)]
+#[derive(Clone, Copy)]
 pub enum Total {
     Amount(Microcents),
     AggregateOverflow,
@@ -24,7 +27,7 @@ pub enum Total {
 }
 
 // The seat of a name that is not too long, or that it is longer.
-#[derive(Drop)]
+#[derive(Clone, Copy)]
 enum Sought {
     Seat(Seat),
     NameTooLong,

@@ -21,7 +21,7 @@ const FIELD_AND_WORD: usize = 1 + 8;
 
 const YES: u64 = 1;
 
-#[derive(Drop)]
+#[derive(Clone, Copy)]
 pub enum AnswerRead {
     Answer,
     OutputTooShort,
@@ -29,7 +29,7 @@ pub enum AnswerRead {
 }
 
 // What an answer carries, a word for each value, and zero for none.
-#[derive(Drop)]
+#[derive(Clone, Copy)]
 struct Values {
     first: u64,
     second: u64,
@@ -41,13 +41,13 @@ struct Values {
     eighth: u64,
 }
 
-#[derive(Drop)]
+#[derive(Clone, Copy)]
 enum Carried {
     Values(Values),
     BadFrame,
 }
 
-#[derive(Drop)]
+#[derive(Clone, Copy)]
 enum NameEnd {
     At(usize),
     BadFrame,

@@ -6,7 +6,7 @@ ghost use Rattle.recorder.specs.Shapes.{kinds_of, kinds_in};
 ghost use Rattle.recorder.specs.Refusals.{refusal_set, carried_by};
 
 // What stands behind an answer's number.
-#[derive(Drop)]
+#[derive(Clone, Copy)]
 pub enum Shape {
     NoAnswer,
     Nothing,

@@ -1,5 +1,8 @@
 // Operations and answers as lines, and answers read back (document 02, L1), on numbers and lent bytes. A name or a snapshot is lent as it is, and spelled from where it
 // stands.
+
+#![tactic(auto)]
+
 pub mod answer_reader;
 mod answer_table;
 pub mod answer_writer;
@@ -14,7 +17,7 @@ ghost use Rattle.recorder.specs.Recording.{Records, text_of};
 pub const MOST_WORDS: usize = 1 + 8;
 
 // How many characters or bytes were written, or why nothing was.
-#[derive(Drop)]
+#[derive(Clone, Copy)]
 pub enum Recorded {
     Written(usize),
     NameTooLong,

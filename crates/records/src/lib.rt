@@ -1,4 +1,7 @@
 // Fixed-width records in one lent slice of bytes: a head, places, bookings. Where each field starts is said once, in the constants below.
+
+#![tactic(auto)]
+
 ghost use Rattle.std.specs.Prelude.{◌+◌, ◌*◌, ◌^◌, ◌≤◌, ◌<◌, ◌≡◌, length};
 ghost use Rattle.rules.specs.RoomAndSoundLedger.{longest_name};
 ghost use Rattle.records.specs.Layout.{place_start, ledger_head_offset, ledger_head_size, counts_offset, capacity_offset, pair_size, place_size, booking_size, head_size};
@@ -64,7 +67,7 @@ pub const LARGEST_ROOM: usize = HEAD_SIZE
     + BOOKING_SIZE * rules::MOST_RESERVATIONS;
 
 // What a name has: its amounts, whether it has an account, and its limit.
-#[derive(Drop)]
+#[derive(Clone, Copy)]
 pub struct Place {
     pub initial: u64,
     pub remaining: u64,
@@ -76,14 +79,14 @@ pub struct Place {
 }
 
 // A live reservation. Its owner is the number of its airline's place, so that settling needs no search for the name.
-#[derive(Drop)]
+#[derive(Clone, Copy)]
 pub struct Booking {
     pub id: Identifier,
     pub amount: Held,
     pub owner: u64,
 }
 
-#[derive(Drop)]
+#[derive(Clone, Copy)]
 pub struct Head {
     pub next_id: u64,
     pub last_version: u64,
@@ -91,7 +94,7 @@ pub struct Head {
 }
 
 // How many names and reservations there is room for, how many names are in use, and how many bookings live.
-#[derive(Drop)]
+#[derive(Clone, Copy)]
 pub struct Sizes {
     pub names: u64,
     pub reservations: u64,

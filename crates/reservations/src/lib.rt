@@ -1,4 +1,7 @@
 // Reserve, commit and release on a ledger already known to be sound, which they leave sound.
+
+#![tactic(auto)]
+
 ghost use Rattle.std.specs.Prelude.{◌≤◌, ◌<◌, ◌≡◌};
 ghost use Rattle.rules.specs.RoomAndSoundLedger.{M};
 ghost use Rattle.rules.specs.AccountRules.{reserve, commit, release, operate};
@@ -15,7 +18,7 @@ use records::{Booking, Head};
 use room::Found;
 
 // UnsoundLedger is given by the operations on any memory that stand above these.
-#[derive(Drop)]
+#[derive(Clone, Copy)]
 pub enum Reserved {
     Granted(Microcents, Identifier),
     Insufficient(Microcents, Microcents),
@@ -27,7 +30,7 @@ pub enum Reserved {
     UnsoundLedger,
 }
 
-#[derive(Drop)]
+#[derive(Clone, Copy)]
 pub enum Committed {
     Done(Microcents, Microcents),
     InvalidAmount,
@@ -38,7 +41,7 @@ pub enum Committed {
     UnsoundLedger,
 }
 
-#[derive(Drop)]
+#[derive(Clone, Copy)]
 pub enum Released {
     Done(Microcents, Microcents),
     MissingReservation,
@@ -47,7 +50,7 @@ pub enum Released {
 }
 
 // A live reservation that is to be settled: its amount, the number of its airline's place, and the seat there.
-#[derive(Drop)]
+#[derive(Clone, Copy)]
 struct Due {
     amount: Held,
     owner: usize,

@@ -1,5 +1,8 @@
 // Restore and recovery restore into a ledger already known to be sound, of bytes already known to be a snapshot: all of it, or a refusal and nothing. The two
 // differ in what they say of the version alone; every check is made before the first byte of the room is written.
+
+#![tactic(auto)]
+
 ghost use Rattle.std.specs.Prelude.{◌≡◌, []};
 ghost use Rattle.rules.specs.SnapshotsMigrationCertificates.{restore_version, recovery_version, restore_refusal, restore, recovery_restore};
 ghost use Rattle.snapshot_reader.specs.Standing.{IsSnapshot, OfSnapshot};

@@ -1,8 +1,10 @@
 // What a room holds, and what it means: definitions only. specs/contents.antt has the room as its sizes, head, places and bookings, specs/room.antt
 // when bytes are the room of a sound ledger, and specs/ledger_bytes.antt the bytes of a ledger written out, which are its room.
 
+#![tactic(auto)]
+
 // What a look-up answers.
-#[derive(Drop)]
+#[derive(Clone, Copy)]
 pub enum Found {
     At(usize),
     Absent,

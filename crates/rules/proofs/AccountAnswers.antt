@@ -159,13 +159,13 @@ module _ (L : Ledger) (code : ℕ) where
 
 pub account-listed : (L : Ledger) → Sound L → (x : AccountOperation ℕ) → AccountOperationFits x → Listed (code_of (on_account x)) (operate L x).reply
 unfolding operate form_of answer_table first
-account-listed L known (ensure a z) (bytes, f) = on-name-listed L _ known a (ensure_rule z) tt (λ total c l h small o. ensure-listed L.next_id _ z f c l)
-account-listed L known (top_up a z) (bytes, f) = on-name-listed L _ known a (top_up_rule z) tt (λ total c l h small o. top-up-listed L.next_id _ z f total c l h o)
-account-listed L known (limit a z) (bytes, f) = on-name-listed L _ known a (limit_rule z) tt (λ total c l h small o. limit-listed L.next_id _ z f c l)
-account-listed L known (reserve a z) (bytes, f) = on-name-listed L _ known a (reserve_rule z (next_id_is_m L)) tt
-    (λ total c l h small o. reserve-listed L.next_id _ known.next_id.1 z f _ total c l h small)
-account-listed L known (commit i z) f = on-booking-listed L _ known i (commit_rule z) tt (commit-none z) (commit-listed z f)
-account-listed L known (release i) f = on-booking-listed L _ known i release_rule tt release-none release-listed
+account-listed L known (ensure a z) (bytes, f) = on-name-listed L ensure_frame.code known a (ensure_rule z) tt (λ total c l h small o. ensure-listed L.next_id (holds_place a L.places) z f c l)
+account-listed L known (top_up a z) (bytes, f) = on-name-listed L top_up_frame.code known a (top_up_rule z) tt (λ total c l h small o. top-up-listed L.next_id _ z f total c l h o)
+account-listed L known (limit a z) (bytes, f) = on-name-listed L limit_frame.code known a (limit_rule z) tt (λ total c l h small o. limit-listed L.next_id (holds_place a L.places) z f c l)
+account-listed L known (reserve a z) (bytes, f) = on-name-listed L reserve_frame.code known a (reserve_rule z (next_id_is_m L)) tt
+    (λ total c l h small o. reserve-listed L.next_id (holds_place a L.places) known.next_id.1 z f _ total c l h small)
+account-listed L known (commit i z) f = on-booking-listed L commit_frame.code known i (commit_rule z) tt (commit-none z) (commit-listed z f)
+account-listed L known (release i) f = on-booking-listed L release_frame.code known i release_rule tt release-none release-listed
 account-listed L known (read_remaining a) f = tt
 account-listed L known (read_initial a) f = tt
 account-listed L known (read_committed a) f = tt

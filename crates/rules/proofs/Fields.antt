@@ -157,7 +157,7 @@ abbrev ◌and◌ : {A B : Type 0} → A → B → A × B
 a and b = (a, b)
 
 named-law : Lawful (a_name followed-by an_amount) (λ (z : Name × ℤ). NameFits z.0 × IsAmount z.1) (1 + longest_name + 8)
-named-law = name-law and_then amount-law
+named-law = name-law and-then amount-law
 
 -- row by row
 rows-law : All RowLaw codes
@@ -167,14 +167,14 @@ rows-law =
     and row-law top_up_frame named-law (λ x. refl) (λ x ((b, _), z). (b, z)) refl (omega arith) (omega arith)
     and row-law limit_frame named-law (λ x. refl) (λ x ((b, _), z). (b, z)) refl (omega arith) (omega arith)
     and row-law reserve_frame named-law (λ x. refl) (λ x ((b, _), z). (b, z)) refl (omega arith) (omega arith)
-    and row-law commit_frame (number-law and_then amount-law) (λ x. refl) (λ x (_, z). z) refl (omega arith) (omega arith)
+    and row-law commit_frame (number-law and-then amount-law) (λ x. refl) (λ x (_, z). z) refl (omega arith) (omega arith)
     and row-law release_frame number-law (λ x. refl) (λ x _. tt) refl (omega arith) (omega arith)
     and row-law snapshot_frame nothing-law (λ x. refl) (λ x _. tt) refl (omega arith) (omega arith)
     and row-law restore_frame snapshot-law (λ x. refl) (λ x h. h) refl (omega arith) (omega arith)
     and row-law recovery_frame snapshot-law (λ x. refl) (λ x h. h) refl (omega arith) (omega arith)
-    and row-law migration_frame (number-law and_then snapshot-law) (λ x. refl) (λ x h. h) refl (omega arith) (omega arith)
+    and row-law migration_frame (number-law and-then snapshot-law) (λ x. refl) (λ x h. h) refl (omega arith) (omega arith)
     and row-law certificate_frame nothing-law (λ x. refl) (λ x _. tt) refl (omega arith) (omega arith)
-    and row-law snapshot_certificate_frame (amount-law and_then snapshot-law) (λ x. refl) (λ x h. h) refl (omega arith) (omega arith)
+    and row-law snapshot_certificate_frame (amount-law and-then snapshot-law) (λ x. refl) (λ x h. h) refl (omega arith) (omega arith)
     and row-law proof_frame nothing-law (λ x. refl) (λ x _. tt) refl (omega arith) (omega arith)
     and row-law status_frame snapshot-law (λ x. refl) (λ x h. h) refl (omega arith) (omega arith)
     and tt

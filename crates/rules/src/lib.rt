@@ -1,6 +1,8 @@
 // The rules of document 01. specs/ writes the paper down, a file for each of its sections, and proofs/ holds the theorems about those definitions.
 // Of code there is only what the paper fixes as a number: the crates above take it from here.
 
+#![tactic(auto)]
+
 // The greatest amount and the greatest id.
 pub const M: u64 = 9223372036854775807;
 

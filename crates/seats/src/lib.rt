@@ -1,5 +1,8 @@
 // The seat of a name as the account rules see it: read from the room, put back in its place, and written for a name, which may take a place or free
 // the one it has.
+
+#![tactic(auto)]
+
 ghost use Rattle.std.specs.Prelude.{◌≡◌, true, false, ◌≤◌, ◌<◌, length};
 ghost use Rattle.std.proofs.Math.Option.{none};
 ghost use Rattle.rules.specs.RoomAndSoundLedger.{is_vacant, holds_place, seat_in, longest_name};
@@ -15,7 +18,7 @@ use records::Place;
 use room::Found;
 
 // What a write comes to: the ledger has room for the name, or it has not.
-#[derive(Drop)]
+#[derive(Clone, Copy)]
 pub enum Written {
     Done,
     NamesFull,

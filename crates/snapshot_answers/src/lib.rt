@@ -1,4 +1,7 @@
 // The answers of snapshots, restores, migration, certificates and the conservation proof as document 01 writes them.
+
+#![tactic(auto)]
+
 ghost use Rattle.std.specs.Prelude.{◌≤◌, ◌≡◌, length, cond};
 ghost use Rattle.rules.specs.RoomAndSoundLedger.{longest_name};
 ghost use Rattle.validation.specs.Judgement.{judged_reply};

@@ -1,4 +1,7 @@
 // A supplied snapshot in lent bytes. Its rows have names of any length up to 255 and are read where they stand, one after the other to the last byte.
+
+#![tactic(auto)]
+
 ghost use Rattle.std.specs.Prelude.{◌≤◌, length, drop, ◌≡◌};
 ghost use Rattle.rules.specs.SnapshotsMigrationCertificates.{read_row, snapshot_of_bytes, has_long_name};
 ghost use Rattle.snapshot_reader.specs.Standing.{checked_as, is_read, IsSnapshot, RowStands, OfRow, RowEnds, EndsName, ReadsRow, OfSnapshot};
@@ -11,7 +14,7 @@ const MOST_ROWS: u64 = rules::MOST_NAMES as u64;
 const LONGEST_NAME: u8 = rules::LONGEST_NAME as u8;
 
 // A row's amounts, where its name ends (it starts after its length), and where the row ends.
-#[derive(Drop)]
+#[derive(Clone, Copy)]
 pub struct StandingRow {
     pub initial: Microcents,
     pub remaining: Microcents,
@@ -21,14 +24,14 @@ pub struct StandingRow {
     pub end: usize,
 }
 
-#[derive(Drop)]
+#[derive(Clone, Copy)]
 enum RowEnd {
     At(usize),
     Missing,
 }
 
 // What stands in the way of a supplied snapshot before any rule is asked (document 01, "Frames"): 23 comes before 19.
-#[derive(Drop)]
+#[derive(Clone, Copy)]
 pub enum Checked {
     Passes,
     NameTooLong,

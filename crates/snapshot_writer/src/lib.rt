@@ -1,5 +1,8 @@
 // A snapshot of a ledger already known to be sound, written into lent output: the rows of the accounts one behind the other, and then the header before
 // them, since it counts them. Nothing is written unless all of it has room, and what stands past it stays.
+
+#![tactic(auto)]
+
 ghost use Rattle.std.specs.Prelude.{◌≡◌, not, [], ◌∷◌, ◌++◌, ◌+◌, ◌≤◌, ◌<◌, length, drop};
 ghost use Rattle.rules.specs.SnapshotsMigrationCertificates.{row_bytes, account_rows, snapshot_of, too_short_for, snapshot, output_after, most_rows};
 ghost use Rattle.rules.specs.RoomAndSoundLedger.{longest_name};
@@ -11,7 +14,7 @@ ghost use Rattle.snapshot_writer.specs.Output.{row_size, row_of_place, snapshot_
 use heads::Stamped;
 use records::Place;
 
-#[derive(Drop)]
+#[derive(Clone, Copy)]
 pub enum Snapshotted {
     Written(usize),
     AllocatorExhausted,
@@ -20,7 +23,7 @@ pub enum Snapshotted {
 }
 
 // How many rows are written, and where they end.
-#[derive(Drop)]
+#[derive(Clone, Copy)]
 struct Extent {
     rows: u64,
     end: usize,

@@ -1,5 +1,8 @@
 // Whether lent memory is the room of a sound ledger, and the making of a fresh one. Every clause of document 01's paragraph is asked: once over the
 // places, once over the bookings, and once over the room not in use.
+
+#![tactic(auto)]
+
 ghost use Rattle.std.specs.Prelude.{◌≡◌, true, false, ◌+◌, ◌-◌, ◌*◌, ◌^◌, ◌≤◌, ◌<◌, length, replicate};
 ghost use Rattle.rules.specs.RoomAndSoundLedger.{M, InRange, is_vacant, made};
 ghost use Rattle.names.specs.Names.{IsStored};
@@ -347,7 +350,7 @@ pub fn is_sound(room: &[u8]) -> bool
     check(room)
 }
 
-#[derive(Drop)]
+#[derive(Clone, Copy)]
 pub enum Made {
     Done,
     UnsoundLedger,

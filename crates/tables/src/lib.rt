@@ -1,4 +1,7 @@
 // The steps that change the tables of a room, each said of the room's contents.
+
+#![tactic(auto)]
+
 ghost use Rattle.std.specs.Prelude.{◌≡◌, ◌++◌, ◌+◌, ◌-◌, ◌*◌, ◌≤◌, ◌<◌, length, take, drop};
 ghost use Rattle.rules.specs.Lists.{All};
 ghost use Rattle.records.specs.Layout.{booking_size};

@@ -1,5 +1,8 @@
 // Exact totals of amounts, in the place of the Rust's 128 bits: two words, of which the high one has the sign (document 01, "The shape of some places").
 // An amount is added or taken off, and a total is fitted into an amount again where it is one.
+
+#![tactic(auto)]
+
 ghost use Rattle.std.specs.Prelude.{◌+◌, ◌^◌, ◌<◌, ◌≡◌, pos, ◌+ℤ◌, ◌-ℤ◌};
 ghost use Rattle.std.specs.Int.Signed.{mag};
 ghost use Rattle.totals.specs.Totals.{value_of, Moved, fitted};
@@ -13,14 +16,14 @@ const GREATEST_WORD: u64 = 2 * rules::M + 1;
 
 const GREATEST: i64 = rules::M as i64;
 
-#[derive(Drop)]
+#[derive(Clone, Copy)]
 pub struct Total {
     pub high: i64,
     pub low: u64,
 }
 
 // A total as an amount of 64 bits, where it is one.
-#[derive(Drop)]
+#[derive(Clone, Copy)]
 pub enum Fitted {
     Fits(Microcents),
     Outside,

@@ -1,6 +1,9 @@
 // Lines read turn by turn. A program reads as much as comes into lent bytes and hands it over; here stands which lines are whole, what is held of the next one
 // until the rest of it comes, that a line which fills the lent bytes is handed on at once and then passed over to its end, and what all of them are answered.
 // Nothing here reads or writes: what a turn answers stands in the lent output.
+
+#![tactic(auto)]
+
 ghost use Rattle.std.specs.Prelude.{◌≡◌, true, false, [], ◌+◌, ◌-◌, ◌≤◌, ◌<◌, length, take};
 ghost use Rattle.rules.specs.Frames.{operation_of_line};
 ghost use Rattle.records.specs.Rows.{row};
@@ -12,7 +15,7 @@ ghost use Rattle.turns.specs.Turns.{held_in, Within, TakesIn, MakesRoom, longest
 use lines::{LineAnswer, LineEnd};
 
 // What was read and not answered yet stands in the lent input between these two. While the rest of a line that was too long is passed over, that is nothing.
-#[derive(Drop)]
+#[derive(Clone, Copy)]
 pub struct Held {
     pub from: usize,
     pub end: usize,
@@ -20,7 +23,7 @@ pub struct Held {
 }
 
 // What a step of answering comes to: how much output was written, and whether all that was read is answered, so that the program reads on.
-#[derive(Drop)]
+#[derive(Clone, Copy)]
 pub struct Turn {
     pub held: Held,
     pub written: usize,

@@ -1,5 +1,8 @@
 // Judging a supplied snapshot, where it stands: conservation row by row, and the checks that a restore and a migration share, in their order. The first bad row
 // decides, so nothing is kept of a row that passed. Names longer than a place holds are ruled out before.
+
+#![tactic(auto)]
+
 ghost use Rattle.std.specs.Prelude.{◌≡◌, List, [], ℕ, ◌≤◌};
 ghost use Rattle.rules.specs.Lists.{any};
 ghost use Rattle.rules.specs.RoomAndSoundLedger.{same, longest_name};
@@ -13,7 +16,7 @@ use numbers::Microcents;
 use totals::Fitted;
 
 // What is said of a snapshot: a check that is refused hands its refusal straight up. A name that it carries stands beside it, since an enum holds no array.
-#[derive(Drop)]
+#[derive(Clone, Copy)]
 pub enum Verdict {
     Done,
     ActiveReservations(u64),
@@ -33,7 +36,7 @@ pub enum Verdict {
 }
 
 // The answer of every operation that is handed a snapshot. The name is that of the row that was refused, and the empty one where the answer carries none.
-#[derive(Drop)]
+#[derive(Clone, Copy)]
 pub struct Judged {
     pub name: Name,
     pub verdict: Verdict,

@@ -1,5 +1,8 @@
 // The ledger for programs in C and Rust: numbers and lent bytes in, numbers out. In C a slice is a pointer and a length (bindings/zatovola.h). None of these
 // functions asks anything of its caller.
+
+#![tactic(auto)]
+
 mod ledger_reads;
 mod recorder_calls;
 

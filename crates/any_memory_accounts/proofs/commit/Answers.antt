@@ -1,0 +1,16 @@
+-- `any_memory_accounts::commit` meets its contract: memory that is no sound room is 24 and stays, and of a sound one `reservations` promises the rest
+-- (soundness, Checked).
+use borrow.Author.Rules.{rules}
+use borrow.Author.Tests.{not-false}
+use Rattle.soundness.proofs.Checked.{refused, answered}
+use Rattle.any_memory_accounts.proofs.commit.Goals as goal
+
+pub returns-then-not-is_sound : goal.returns-then-not-is_sound
+returns-then-not-is_sound c = refused _ _ _ c.is_sound.ensures c.if-not-is_sound.true-raw
+
+pub commit-requires : goal.commit-requires
+commit-requires c = c.is_sound.ensures.holds (not-false _ c.if-not-is_sound.false-raw)
+
+pub returns : goal.returns
+returns c =
+    answered _ _ _ c.is_sound.ensures c.if-not-is_sound.false-raw _ _ c.commit.ensures

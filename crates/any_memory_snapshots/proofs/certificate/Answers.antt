@@ -1,0 +1,16 @@
+-- `any_memory_snapshots::certificate` meets its contract: memory that is no sound room is 24 and stays, and of a sound one `certificates` promises the rest
+-- (soundness, Checked).
+use borrow.Author.Rules.{rules}
+use borrow.Author.Tests.{not-false}
+use Rattle.soundness.proofs.Checked.{refused, answered}
+use Rattle.any_memory_snapshots.proofs.certificate.Goals as goal
+
+pub returns-then-not-is_sound : goal.returns-then-not-is_sound
+returns-then-not-is_sound c = refused _ _ _ c.is_sound.ensures c.if-not-is_sound.true-raw
+
+pub of_ledger-requires : goal.of_ledger-requires
+of_ledger-requires c = c.is_sound.ensures.holds (not-false _ c.if-not-is_sound.false-raw)
+
+pub returns : goal.returns
+returns c =
+    answered _ _ _ c.is_sound.ensures c.if-not-is_sound.false-raw _ _ c.of_ledger.ensures

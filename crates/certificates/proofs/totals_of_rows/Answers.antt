@@ -1,0 +1,79 @@
+-- `certificates::totals_of_rows` meets its contract. The invariant: each total is that of the rows passed (Adding). So few amounts leave the high word far
+-- from its ends, which is what `plus` asks.
+use mathlib.Core.Path.{◌≡◌, sym, ◌∙◌, ap, ap₂, subst}
+use mathlib.Core.List.{List}
+use Prim.Native.Nat.{ℕ, ◌+◌, ◌-◌, ◌≤◌}
+use native.Mathlib.Omega.{arith}
+use borrow.Author.Rules.{rules}
+use lib.ListN.{length, length-append}
+use Rattle.rules.specs.SnapshotsMigrationCertificates.{Row, most_rows}
+use Rattle.big_endian.specs.Layout.{row_amounts}
+use Rattle.totals.specs.declared.Total.{Total}
+use Rattle.snapshot_reader.specs.Standing.{RowStands, Passed, OfSnapshot}
+use Rattle.snapshot_reader.proofs.Header.{header}
+use Rattle.snapshot_reader.proofs.Rows.{Ends, start, stands, forward, advance, finished}
+use Rattle.certificates.specs.Certified.{both_fitted}
+use Rattle.certificates.proofs.Adding.{may_add, RowsAdded, rows_none, rows_next}
+use Rattle.certificates.proofs.totals_of_rows.Invariants.{BothAdded}
+use Rattle.certificates.proofs.totals_of_rows.Goals as goal
+
+pub loop-at-init : goal.loop-at-init
+loop-at-init c s e = start (header _ s e).from (rows_none (λ r. r.initial) c.nothing-initial.result c.nothing-initial.ensures, rows_none (λ r. r.committed) c.nothing-committed.result c.nothing-committed.ensures)
+
+-- ── a turn ─────────────────────────────────────────────────────────────────────────────────────
+
+module _ (c : goal.In-loop-at) where
+  abbrev entry : goal.Start
+  entry = c.before.before.before.before.before
+
+  abbrev bytes : List ℕ
+  bytes = entry.args.bytes.now
+
+  passed : Passed bytes entry.requires.snapshot.rows c.loop-at.at (BothAdded c.loop-at.initial' c.loop-at.committed)
+  passed = c.loop-at.invariant entry.requires.snapshot entry.requires.is_read
+
+  here : RowStands bytes c.loop-at.at
+  here = stands passed c.loop-at-test.true
+
+  -- there are at most 256 rows
+  few : length passed.earlier ≤ most_rows
+  few = omega (arith, (header bytes entry.requires.snapshot entry.requires.is_read).few, ap length passed.rows, length-append passed.earlier passed.later)
+
+pub plus-initial-requires : goal.plus-initial-requires
+plus-initial-requires c = may_add (length (passed c.before.before).earlier) _ c.loop-at.initial' (passed c.before.before).so_far.0 (few c.before.before)
+
+pub plus-committed-requires : goal.plus-committed-requires
+plus-committed-requires c = may_add (length (passed c.before.before.before.before).earlier) _ c.loop-at.committed (passed c.before.before.before.before).so_far.1 (few c.before.before.before.before)
+
+module _ (c : goal.After-read_row-row) where
+  ends : Ends (bytes c.before) c.loop-at.at c.read_row-row.result.name_end
+  ends row later from = (c.read_row-row.ensures row later from).ends_name
+
+  end_is : c.read_row-row.result.end ≡ c.read_row-row.result.name_end + row_amounts
+  end_is = let h = here c.before in (c.read_row-row.ensures h.row h.later h.from).end
+
+pub loop-at-smaller : goal.loop-at-smaller
+loop-at-smaller c = omega (arith, end_is c.before.before.before.before, forward (here c.before.before.before.before.before) (ends c.before.before.before.before))
+
+pub loop-at-preserved : goal.loop-at-preserved
+loop-at-preserved c s e =
+    let r = c in
+    let t = r in
+    let l = t.loop-at in
+    let row = r.read_row-row.result in
+    subst (λ at. Passed (bytes t.before.before.before.before.before) s.rows at (BothAdded c.plus-initial.result c.plus-committed.result)) (sym (end_is r.before.before.before.before))
+    (advance (l.invariant s e) t.loop-at-test.true (ends r.before.before.before.before)
+    (λ a. let read = r.read_row-row.ensures a.row a.later a.from in (
+      rows_next (λ r. r.initial) a.earlier a.row l.initial a.so_far.0 row.initial c.plus-initial.result read.initial c.plus-initial.ensures,
+      rows_next (λ r. r.committed) a.earlier a.row l.committed a.so_far.1 row.committed c.plus-committed.result read.committed c.plus-committed.ensures,
+    )))
+
+-- ── after the last row ─────────────────────────────────────────────────────────────────────────
+
+pub returns : goal.returns
+returns c s e =
+    let all = finished (c.loop-at.invariant s e) c.loop-at-test.false in
+    c.fit_both.ensures ∙ ap₂ both_fitted all.0.0 all.1.0
+
+pub read_row-row-requires : goal.read_row-row-requires
+read_row-row-requires c = here c

@@ -1,0 +1,11 @@
+-- `frames::recovery_restore`: what the call performs on the ledger, and the writing of its answer, put together by `performed` of Performing.antt; `answer`
+-- unfolded gives the equation that it asks for.
+use mathlib.Core.Path.{refl}
+use borrow.Author.Rules.{rules}
+use Rattle.rules.specs.Frames.{answer}
+use Rattle.frames.proofs.Performing.{performed}
+use Rattle.frames.proofs.recovery_restore.Goals as goal
+
+pub returns : goal.returns
+unfolding answer
+returns c s e L room = performed (c.recovery_restore-judged.ensures.0 s e L room) c.write_judged.ensures refl

@@ -1,0 +1,11 @@
+-- `frames::reserve`: what the call performs on the ledger, and the writing of its answer, put together by `performed` of Performing.antt; `answer` unfolded
+-- gives the equation that it asks for.
+use mathlib.Core.Path.{refl}
+use borrow.Author.Rules.{rules}
+use Rattle.rules.specs.Frames.{answer}
+use Rattle.frames.proofs.Performing.{performed}
+use Rattle.frames.proofs.reserve.Goals as goal
+
+pub returns : goal.returns
+unfolding answer
+returns c L room = performed (c.reserve-answer.ensures L room) c.write_reserved.ensures refl

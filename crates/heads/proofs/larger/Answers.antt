@@ -1,0 +1,10 @@
+-- `heads::larger` meets its contract: the test of the two is the definition's own, turned to its Boolean form.
+use native.Mathlib.Omega.{arith}
+use borrow.Author.Tests.{lt-ltb, le-ltb}
+use Rattle.heads.proofs.larger.Goals as goal
+
+pub returns-then-total-baseline : goal.returns-then-total-baseline
+returns-then-total-baseline c = let a = c.args in rw (le-ltb a.baseline a.total (omega arith))
+
+pub returns : goal.returns
+returns c = let a = c.args in rw (lt-ltb a.baseline a.total (omega arith))

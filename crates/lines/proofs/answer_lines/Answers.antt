@@ -1,0 +1,150 @@
+-- `lines::answer_lines`, by a loop whose invariant is `Underway` of Stretch.antt for whatever is lent, and that what is known of the memory still holds
+-- (StaysKnown.antt). `turn` adds a line; `stopped` and `at-the-end` make the batch of it.
+use mathlib.Core.Path.{◌≡◌, refl, subst, ◌∙◌}
+use mathlib.Core.List.{List}
+use Prim.Native.Nat.{ℕ, ◌+◌, ◌-◌, ◌≤◌}
+use native.Mathlib.Omega.{arith}
+use borrow.Author.Rules.{rules}
+use lib.ListN.{length, take, drop, length-drop}
+use Rattle.rules.specs.AnswerNumbers.{Lent}
+use Rattle.rules.specs.Frames.{operation_of_line}
+use Rattle.records.specs.Rows.{put}
+use Rattle.records.proofs.Rows.{put-length}
+use Rattle.frames.specs.Answering.{IsLent, Known}
+use Rattle.lines.specs.Batching.{FirstLine, PromisesLine, NextFound, NextAnswered, PromisesNext}
+use Rattle.lines.specs.declared.LineAnswer.TheVariants as answered
+use Rattle.lines.specs.declared.Next.{Next}
+use Rattle.lines.specs.declared.Next.TheVariants as next
+use Rattle.lines.proofs.AnswerLines.{some-lent}
+use Rattle.lines.proofs.StaysKnown.{stays-known}
+use Rattle.lines.proofs.Stretch.{Underway, begun, part_from, part_length, rest-is, written-within, turn, stopped, at-the-end}
+use Rattle.lines.proofs.answer_lines.Goals as goal
+
+abbrev entry : goal.At-loop-used → goal.Start
+entry l = l.before.before.before.before.before
+
+passed : (l : goal.At-loop-used) → (l.loop-used.used ≤ length (entry l).args.input.now) × (l.loop-used.written ≤ length (entry l).args.output.now)
+passed l = (l.loop-used.invariant.0, omega (arith, l.loop-used.invariant.1, l.loop-used.invariant.2))
+
+pub loop-used-init : goal.loop-used-init
+loop-used-init c =
+    let a = c.args in
+    (omega arith, omega arith, refl, refl, refl, c.requires.0, λ l is. begun l a.input.now a.room.now a.output.now is)
+
+-- ── the next line ──────────────────────────────────────────────────────────────────────────────
+
+module _ (c : goal.After-answer_next) where
+  abbrev turn-of : goal.At-loop-used
+  turn-of = c.before.before.before.before.before.before
+
+  abbrev rest : List ℕ
+  rest = drop turn-of.loop-used.used (entry turn-of).args.input.now
+
+  abbrev after : List ℕ
+  after = c.answer_next.new.room
+
+  abbrev part : List ℕ
+  part = part_from turn-of.loop-used.written turn-of.loop-used.output
+
+  abbrev part-after : List ℕ
+  part-after = c.answer_next.new.output
+
+  part-kept : length part-after ≡ length part
+  part-kept = omega (arith, c.answer_next.auto)
+
+  module _ (r : Next) (is : c.answer_next.result ≡ r) where
+    found : NextFound rest r
+    found = subst (λ input. NextFound input r) (rest-is turn-of.loop-used.used (entry turn-of).args.input.now) (subst (NextFound _) is c.answer_next.ensures.0)
+
+    promise : PromisesNext rest turn-of.loop-used.room after part part-after r
+    promise l lent =
+        subst (λ input. NextAnswered l input turn-of.loop-used.room after part part-after r) (rest-is turn-of.loop-used.used (entry turn-of).args.input.now)
+        (subst (NextAnswered l (part_from turn-of.loop-used.used (entry turn-of).args.input.now) turn-of.loop-used.room after part part-after) is (c.answer_next.ensures.1 l lent))
+
+abbrev asked : goal.In_default → goal.After-answer_next
+asked c = c.before.before.before.before.before.before.before.before
+
+pub returns-in_default : goal.returns-in_default
+returns-in_default c =
+    let a = asked c in
+    let o = (turn-of a).loop-used in (
+      λ l is. stopped (after a) (part-after a) (o.inv.6 l is) o.inv.2 (promise a next.Stopped c.in_default.is),
+      passed (turn-of a),
+    )
+
+-- ── answered ───────────────────────────────────────────────────────────────────────────────────
+
+module _ (c : goal.In-Answered) where
+  abbrev answer : goal.After-answer_next
+  answer = c.before.before.before.before.before.before.before.before.before
+
+  abbrev end : ℕ
+  end = c.in-Answered.end
+
+  abbrev size : ℕ
+  size = c.in-Answered.size
+
+  first : FirstLine (rest answer) end
+  first = found answer (next.Answered end size) c.in-Answered.is
+
+  promised : PromisesLine (operation_of_line (take end (rest answer))) (turn-of answer).loop-used.room (after answer) (part answer) (part-after answer) (answered.Written size)
+  promised = promise answer (next.Answered end size) c.in-Answered.is
+
+  used-within : (turn-of answer).loop-used.used + (end + 1) ≤ length (entry (turn-of answer)).args.input.now
+  used-within = let o = (turn-of answer).loop-used in omega (arith, first.inside, length-drop o.used (entry (turn-of answer)).args.input.now, o.inv.0)
+
+  written-fits : (turn-of answer).loop-used.written + size ≤ length (turn-of answer).loop-used.output
+  written-fits =
+      let o = (turn-of answer).loop-used in
+      let lent = some-lent (entry (turn-of answer)).args.known o.inv.5 in
+      omega (arith, written-within (promised lent.lent lent.is_lent).1 (part-kept answer), part_length o.written o.output, o.inv.1)
+
+pub loop-used-preserved : goal.loop-used-preserved
+loop-used-preserved c =
+    let a = answer c in
+    let o = (turn-of a).loop-used in
+    let known = (entry (turn-of a)).args.known in
+    let left = length o.output - o.written in
+    let kept : length (put o.written left o.output (part-after a)) ≡ length o.output =
+    put-length o.written left o.output (part-after a) (omega (arith, o.inv.1)) (part-kept a ∙ part_length o.written o.output) in (
+      omega (arith, used-within c),
+      omega (arith, written-fits c, kept),
+      kept ∙ o.inv.2,
+      c.room-1.given ∙ o.inv.3,
+      c.work-1.given ∙ o.inv.4,
+      stays-known known (operation_of_line (take (end c) (rest a))) o.room (after a) (part a) (part-after a) (size c) o.inv.5 (promised c),
+      λ l is. turn (after a) (part-after a) (end c) (size c) (o.inv.6 l is) (first c) (promised c),
+    )
+
+pub returns : goal.returns
+returns c = (λ l is. at-the-end (c.loop-used.invariant.6 l is) c.loop-used-test.false, passed c.before)
+
+pub shape_of-room-in_default : goal.shape_of-room-in_default
+shape_of-room-in_default c = c.room-1.given ∙ (turn-of (asked c)).loop-used.invariant.3
+
+pub shape_of-work-in_default : goal.shape_of-work-in_default
+shape_of-work-in_default c = c.work-1.given ∙ (turn-of (asked c)).loop-used.invariant.4
+
+pub shape_of-output-in_default : goal.shape_of-output-in_default
+shape_of-output-in_default c = c.output-1.given.1 ∙ (turn-of (asked c)).loop-used.invariant.2
+
+pub overflow_add-used : goal.overflow_add-used
+overflow_add-used c = omega (arith, used-within c)
+
+pub overflow_add-used-in-loop-used : goal.overflow_add-used-in-loop-used
+overflow_add-used-in-loop-used c = omega (arith, used-within c)
+
+pub overflow_add-written : goal.overflow_add-written
+overflow_add-written c = omega (arith, written-fits c)
+
+pub loop-used-smaller : goal.loop-used-smaller
+loop-used-smaller c = omega (arith, used-within c)
+
+pub shape_of-room : goal.shape_of-room
+shape_of-room c = c.loop-used.invariant.3
+
+pub shape_of-work : goal.shape_of-work
+shape_of-work c = c.loop-used.invariant.4
+
+pub shape_of-output : goal.shape_of-output
+shape_of-output c = c.loop-used.invariant.2

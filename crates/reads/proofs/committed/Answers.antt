@@ -1,0 +1,20 @@
+-- `reads::committed` meets its contract: `seek` gives the ledger's seat of the name, and `of_account` answers of it what the rule reads.
+use mathlib.Core.Path.{◌∙◌}
+use borrow.Author.Rules.{rules}
+use Rattle.rules.specs.AccountRules.{operate, read_rule}
+use Rattle.reads.proofs.Seeking.{read-long, read-account, sought-small}
+use Rattle.reads.proofs.committed.Goals as goal
+
+pub returns-in_default : goal.returns-in_default
+unfolding operate
+returns-in_default c L room =
+    read-long L c.args.part.now (read_rule (λ a. a.committed)) c.seek.result (c.seek.ensures L room) c.in_default.is
+
+pub of_account-requires : goal.of_account-requires
+of_account-requires c =
+    (sought-small c.args.room.now c.args.part.now c.in-Seat.seat c.seek.result c.requires c.seek.ensures c.in-Seat.is).committed
+
+pub returns : goal.returns
+unfolding operate
+returns c L room =
+    c.of_account.ensures ∙ read-account L c.args.part.now c.in-Seat.seat c.seek.result (c.seek.ensures L room) c.in-Seat.is (λ a. a.committed)

@@ -1,0 +1,77 @@
+-- `recorder::operations::write`: each arm's function has promised the operation of its codes. By hand is what a range and a `|` leave of the code, and that what no arm
+-- takes is above 14 or 0 (`unknown-frame`).
+use mathlib.Core.Path.{◌≡◌}
+use mathlib.Core.Logic.{inl, inr, ⊎_elim, ◌≢◌}
+use Prim.Native.Nat.{ℕ, ◌<◌}
+use native.Mathlib.Omega.{arith}
+use borrow.Author.Rules.{rules}
+use Rattle.rules.proofs.Tests.{equal_or_not}
+use Rattle.recorder.specs.Recording.{parts}
+use Rattle.recorder.proofs.OperationFrames.{at_code, fence-behind, since-behind, no-operation, unknown-frame}
+use Rattle.recorder.proofs.operations.write.Goals as goal
+
+eight-or-nine : (code : ℕ) → 4 < code → code < 10 → code ≢ 5 → code ≢ 6 → code ≢ 7 → code ≢ 8 → code ≡ 9
+eight-or-nine code low high five six seven eight = omega arith
+
+above : (code : ℕ) → 9 < code → code ≢ 10 → code ≢ 11 → code ≢ 12 → code ≢ 13 → code ≢ 14 → 14 < code
+above code low ten eleven twelve thirteen fourteen = omega arith
+
+-- the arms 8 and 9 come as a range, and 14 by itself
+pub write_snapshot-requires : goal.write_snapshot-requires
+write_snapshot-requires c =
+    let code : ℕ = c.args.code in
+    ⊎_elim
+    (λ k. inr (inr k.keys4))
+    (λ range. let rest = range.0.rest in
+    ⊎_elim (λ e. inl e)
+    (λ other. inr (inl (eight-or-nine code range.2.left range.3.taken rest.0.0.0.0.0.1 rest.0.0.0.0.1 (λ e. rest.0.0.0.1 (inl e)) other))) (equal_or_not code 8))
+    c.in-5.branch
+
+pub returns-in-5 : goal.returns-in-5
+returns-in-5 c =
+    let args = c.args in
+    at_code args.as_line (parts args.number args.amount.0 args.part.now) args.output.now c.in-5.is c.write_commit.ensures
+
+pub returns-in-6 : goal.returns-in-6
+returns-in-6 c =
+    let args = c.args in
+    at_code args.as_line (parts args.number args.amount.0 args.part.now) args.output.now c.in-6.is (c.write_release.ensures args.amount.0)
+
+pub returns-in-7 : goal.returns-in-7
+returns-in-7 c = let args = c.args in c.write_alone.ensures args.number args.amount.0
+
+pub returns-in-10 : goal.returns-in-10
+returns-in-10 c =
+    let args = c.args in
+    c.write_word_and_snapshot.ensures args.number args.amount.0 (fence-behind args.code args.number args.amount.0 c.in-10.is)
+
+pub returns-in-12 : goal.returns-in-12
+returns-in-12 c =
+    let args = c.args in
+    c.write_word_and_snapshot-in-12.ensures args.number args.amount.0
+    (since-behind args.code args.number args.amount.0 c.in-12.is c.word_of.ensures)
+
+pub returns-in-1-to-4 : goal.returns-in-1-to-4
+returns-in-1-to-4 c = let args = c.args in c.write_named.ensures args.number
+
+pub returns-in_default : goal.returns-in_default
+returns-in_default c =
+    let args = c.args in
+    no-operation args.as_line args.code (parts args.number args.amount.0 args.part.now) args.output.now (unknown-frame args.code (λ low. absurd (omega arith)) (parts args.number args.amount.0 args.part.now))
+
+pub returns-in_default-2 : goal.returns-in_default-2
+returns-in_default-2 c =
+    let args = c.args in
+    let code = args.code in
+    let other = c.in-5.rest in
+    let past : 14 < code = above code c.if-code-lt10.false other.0.1 (λ e. other.0.0.0.1 (inr (inl e))) other.1 (λ e. other.0.0.0.1 (inr (inr e))) other.0.0.1 in
+    no-operation args.as_line args.code (parts args.number args.amount.0 args.part.now) args.output.now (unknown-frame args.code (λ _. past) (parts args.number args.amount.0 args.part.now))
+
+pub returns-in-8 : goal.returns-in-8
+returns-in-8 c = let args = c.args in c.write_snapshot.ensures args.number args.amount.0
+
+pub write_word_and_snapshot-requires : goal.write_word_and_snapshot-requires
+write_word_and_snapshot-requires c = inl c.in-10.is
+
+pub write_word_and_snapshot-requires-in-12 : goal.write_word_and_snapshot-requires-in-12
+write_word_and_snapshot-requires-in-12 c = inr c.in-12.is

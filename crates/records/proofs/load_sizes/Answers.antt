@@ -1,0 +1,13 @@
+-- `records::load_sizes` meets its contract: each field is read from its own part.
+use borrow.Author.Rules.{rules}
+use Rattle.records.proofs.load_sizes.Goals as goal
+
+pub returns : goal.returns
+returns c =
+    λ j.
+    record {
+      c = c.read8.ensures j;
+      c = c.read8-2.ensures j;
+      c = c.read8-3.ensures j;
+      live = c.read8-4.ensures j;
+    }

@@ -1,0 +1,120 @@
+-- `reservations::release` meets its contract: as for `commit`, what follows from a booking that was found is one law (`found-booking`), each answer another
+-- of Ending.
+use mathlib.Core.Path.{◌≡◌, refl, sym, ap, ap₂, subst, ◌∙◌}
+use mathlib.Core.List.{List, [], ◌∷◌}
+use Prim.Native.Nat.{ℕ}
+use native.Mathlib.Omega.{arith}
+use borrow.Author.Rules.{rules}
+use Rattle.rules.specs.RoomAndSoundLedger.{M, Ledger}
+use Rattle.rules.specs.AnswerNumbers.{MissingTenant, MissingReservation}
+use Rattle.rules.specs.AccountRules.{AccountOperation, release, release_rule, operate, on_booking, booked, done_with}
+use Rattle.moves.specs.Moves.{SeatSound, releasing_settlement, ReleasingSound}
+use Rattle.moves.specs.declared.Releasing.{Releasing}
+use Rattle.moves.specs.declared.Releasing.TheVariants as releasing
+use Rattle.room.specs.Room.{IsRoom}
+use Rattle.room.proofs.SoundRoom.{searchable}
+use Rattle.room.proofs.Seating.{seat-small}
+use Rattle.reservations.proofs.Fitting.{release-fits}
+use Rattle.reservations.proofs.Ending.{Settled, end-allowed, gone, refuses, settled, leaves, ends, FoundBooking, found-booking}
+use Rattle.reservations.proofs.release.Goals as goal
+
+-- ── at the entry ───────────────────────────────────────────────────────────────────────────────
+
+abbrev room : goal.Start → List ℕ
+room s = s.args.room.now
+
+abbrev id : goal.Start → ℕ
+id s = s.args.id.0
+
+abbrev operation : goal.Start → AccountOperation ℕ
+operation s = release (id s)
+
+abbrev ledger : goal.Start → Ledger
+ledger s = s.requires.ledger
+
+is_room : (s : goal.Start) → IsRoom (room s) (ledger s)
+is_room s = s.requires.is_room
+
+pub find_booking-requires : goal.find_booking-requires
+find_booking-requires c = searchable (room c.before) c.requires
+
+-- ── the reservation that was found ─────────────────────────────────────────────────────────────
+
+abbrev at : goal.In-At-2 → ℕ
+at c = c.in-At.j
+
+found : (c : goal.In-At-2) → FoundBooking (room c.before.before.before.before) (id c.before.before.before.before) (at c)
+found c =
+    let f = c.find_booking in
+    found-booking (room c.before.before.before.before) c.requires (id c.before.before.before.before) (at c) f.result f.ensures c.in-At.is
+
+pub due_at-due-requires : goal.due_at-due-requires
+due_at-due-requires c = (found c.before).readable
+
+pub release-requires : goal.release-requires
+release-requires c = let due = c.due_at-due in (found c.before.before.before.before).allowed due.result due.ensures
+
+abbrev place : goal.After-release → goal.In-At-2
+place c = c.before.before.before.before.before
+
+abbrev start : goal.After-release → goal.Start
+start c = c.before.before.before.before.before.before.before.before.before
+
+settles : (s : goal.Start) (L : Ledger) → operate L (operation s) ≡ on_booking L (booked (id s) L.bookings) release_rule
+unfolding operate
+settles s L = refl
+
+-- whatever ledger the room holds, it is decided to be this
+abbrev Decides : goal.After-release → Releasing → Type 0
+Decides c r =
+    let s = start c in
+    let d = c.due_at-due.result in
+    (L : Ledger) → IsRoom (room s) L → Settled L (operation s) (id s) (at (place c)) d (releasing_settlement d.amount.0 r)
+
+told : (c : goal.After-release) (r : Releasing) → c.release.result ≡ r → Decides c r
+told c r e L k =
+    let s = start c in
+    let due = c.due_at-due in
+    settled (room s) L k (operation s) (id s) release_rule (settles s L) (at (place c)) ((found (place c)).is_live L k) due.result (due.ensures L k) _
+    (sym (ap (releasing_settlement due.result.amount.0) e) ∙ c.release.ensures.0) (λ amount o l adds. release-fits amount o l)
+
+pub returns-in_default : goal.returns-in_default
+unfolding release_rule
+returns-in_default c L r =
+    let f = c.find_booking in
+    refuses (room c.before.before.before.before) L r (operation c.before.before.before.before) (id c.before.before.before.before) release_rule (settles c.before.before.before.before L) (gone (room c.before.before.before.before) L r (id c.before.before.before.before) f.result f.ensures c.in_default.is) MissingReservation refl _ refl
+
+pub returns-in_default-release : goal.returns-in_default-release
+returns-in_default-release c L r =
+    let s = start c.before.before in
+    leaves (room s) L r (operation s) (id s) (at (place c.before.before)) _ MissingTenant (told c.before.before releasing.Missing c.in_default-release.is L r) _ refl
+
+-- ── the reservation ends ───────────────────────────────────────────────────────────────────────
+
+ending : (c : goal.In-Returned) → Decides c.before.before.before (releasing.Returned c.in-Returned.returned)
+ending c = told c.before.before.before _ c.in-Returned.is
+
+returned-sound : (c : goal.In-Returned) → SeatSound c.in-Returned.returned
+returned-sound c = subst ReleasingSound c.in-Returned.is c.release.ensures.1
+
+pub end-requires : goal.end-requires
+end-requires c =
+    let s = start c.before.before.before.before in
+    let allowed = end-allowed (room s) (ledger s) (is_room s) (operation s) (id s) (at (place c.before.before.before.before)) c.due_at-due.result _ (ending c.before (ledger s) (is_room s)) in
+    (allowed.0, omega (arith, allowed.1), omega (arith, allowed.2))
+
+pub amount-requires : goal.amount-requires
+amount-requires c = (seat-small _ (returned-sound c.before.before.before.before)).remaining
+
+-- what was reserved is part of an account
+pub amount-requires-2 : goal.amount-requires-2
+amount-requires-2 c =
+    let due = c.due_at-due in
+    let allowed = (found (place c.before.before.before.before.before.before.before.before)).allowed due.result due.ensures in
+    omega (arith, allowed.1, (seat-small _ allowed.0).reserved)
+
+pub returns : goal.returns
+returns c L r =
+    let s = start c.before.before.before.before.before.before.before.before.before in
+    let done = c.end in
+    ends (room s) L r (operation s) (id s) (at (place c.before.before.before.before.before.before.before.before.before)) _ tt _ _ (ending c.before.before.before.before.before.before L r) (returned-sound c.before.before.before.before.before.before) _ (ap₂ (λ v w. done_with (v ∷ w ∷ [])) c.amount.ensures c.amount-2.ensures) done.new.0 done.ensures

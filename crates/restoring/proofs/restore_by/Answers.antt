@@ -1,0 +1,26 @@
+-- `restoring::restore_by` meets its contract: what was checked is the rule's refusal; a verdict that is not `Done` leaves the room, and else the room filled
+-- is the ledger restored, sound by what the form keeps (Restoring).
+use mathlib.Core.List.{[]}
+use borrow.Author.Rules.{rules}
+use Rattle.validation.specs.Judgement.{refusal_of}
+use Rattle.restoring.proofs.Restoring.{Told, checked, refused, taken, replaced}
+use Rattle.restoring.proofs.restore_by.Goals as goal
+
+abbrev entry : goal.After-refusal-judged → goal.After-shared_slice_known-1
+entry c = c.before.before
+
+told : (c : goal.After-refusal-judged) → let a = (entry c).args in Told (refusal_of [] a.of-version) a.room.now a.bytes.now c.refusal-judged.result
+told c = checked c.load_sizes-sizes.ensures c.refusal-judged.ensures.0
+
+pub returns-in_default : goal.returns-in_default
+returns-in_default c = (refused (told c.before) c.in-Done.keys2, c.refusal-judged.ensures.1)
+
+pub fill-requires : goal.fill-requires
+fill-requires c =
+    let known = (entry c.before.before.before).requires in
+    (known.0, taken (told c.before.before.before) c.in-Done.is known.1)
+
+pub returns : goal.returns
+returns c =
+    let start = entry c.before.before.before.before.before.before in
+    (replaced (told c.before.before.before.before.before.before) c.in-Done.is c.fill.ensures start.shared_slice_known-1.given start.requires.2, c.refusal-judged.ensures.1)

@@ -1,0 +1,24 @@
+-- `seats::put_seat` meets its contract: the place is loaded, its seat replaced and the place stored: together the change of one seat.
+use mathlib.Core.Path.{ap, ◌∙◌}
+use Prim.Native.Nat.{◌<◌}
+use native.Mathlib.Omega.{arith}
+use borrow.Author.Rules.{rules}
+use Rattle.room.specs.Contents.{contents_of, empty_place, with_place}
+use Rattle.room.specs.Seats.{reseated, with_seat}
+use Rattle.tables.proofs.Stores.{sized-by, place-loaded}
+use Rattle.seats.proofs.put_seat.Goals as goal
+
+within : (c : goal.Start) → c.args.i < (contents_of c.args.room.now).sizes.names
+within c = let r = sized-by c.args.room.now c.requires.0 in omega arith
+
+pub load_place-old-requires : goal.load_place-old-requires
+load_place-old-requires c =
+    let r = sized-by c.args.room.now c.requires.0 in
+    omega (arith, within c.before)
+
+pub returns : goal.returns
+unfolding with_seat
+returns c =
+    let put = c.put_place in
+    let xs = c.args.room.now in
+    (put.ensures.0, put.ensures.1 ∙ ap (λ p. with_place c.args.i (reseated c.args.seat p) (contents_of xs)) (c.load_place-old.ensures ∙ place-loaded xs c.args.i empty_place (within c.before.before.before.before.before.before.before)))

@@ -1,0 +1,15 @@
+-- `soundness::clear` meets its contract: the invariant is that the bytes passed are zeros, and those from i on as they were.
+use mathlib.Core.Path.{◌≡◌, refl, ap, ◌∙◌}
+use mathlib.Core.List.{[], ◌++◌, append-nil}
+use Prim.Native.Nat.{ℕ, ◌-◌, ◌≤◌}
+use native.Mathlib.Omega.{arith}
+use borrow.Author.Fill.{fill_none, fill_more}
+use borrow.Author.Rules.{rules}
+use lib.ListN.{length, drop, set, replicate, length-set, drop_of_length-le}
+use Rattle.soundness.proofs.clear.Given as goal
+
+abbrev pub invariant-loop-i : goal.invariant-loop-i
+invariant-loop-i l = (l.i ≤ length l.initial.room) × (length l.room ≡ length l.initial.room) × (l.room ≡ replicate l.i 0 ++ drop l.i l.initial.room)
+
+abbrev pub decreases-loop-i : goal.decreases-loop-i
+decreases-loop-i l = length l.initial.room - l.i

@@ -1,0 +1,16 @@
+-- `soundness::is_zero` meets its contract: the invariant is that what is joined is zero just where every byte passed is (Joined).
+use Prim.Native.Nat.{◌-◌, ◌≤◌}
+use native.Mathlib.Omega.{arith}
+use borrow.Author.Rules.{rules}
+use lib.ListN.{length}
+use Rattle.soundness.proofs.Joined.{Joins, joins-none, joins-more, joins-all}
+use Rattle.soundness.proofs.is_zero.Goals as goal
+
+pub loop-i-preserved : goal.loop-i-preserved
+loop-i-preserved c = (omega arith, joins-more _ _ _ c.loop-i.invariant.1)
+
+pub returns : goal.returns
+returns c = joins-all _ _ _ _ (omega arith) c.loop-i.invariant.1
+
+pub loop-i-init : goal.loop-i-init
+loop-i-init c = (omega arith, joins-none _)

@@ -1,0 +1,43 @@
+-- `tables::append_booking` meets its contract: the store puts the booking behind the live ones, the counts then take it in; `counted` joins the two stores
+-- to the step.
+use Prim.Native.Nat.{◌+◌}
+use mathlib.Core.Path.{refl, ap}
+use native.Mathlib.Omega.{arith}
+use borrow.Author.Rules.{rules}
+use mathlib.Core.List.{List}
+use lib.ListN.{set}
+use Rattle.records.specs.declared.Booking.{Booking}
+use Rattle.room.specs.Contents.{contents_of, base_of, appended_booking}
+use Rattle.tables.specs.Steps.{on_bookings}
+use Rattle.tables.proofs.Stores.{Loaded, loaded, stays, counted, booking-replaced}
+use Rattle.tables.proofs.Whole.{appended}
+use Rattle.tables.proofs.append_booking.Goals as goal
+
+sizes : (c : goal.After-load_sizes-sizes) → Loaded c.args.room.now c.load_sizes-sizes.result
+sizes c = loaded c.args.room.now c.load_sizes-sizes.result c.requires.0 c.load_sizes-sizes.ensures
+
+pub returns : goal.returns
+returns c =
+    let d = c in
+    let t = d.load_sizes-sizes.result in
+    let z = sizes d.before.before.before.before.before.before.before.before.before in
+    let booked = c.store_booking in
+    let last = c.store_counts in
+    let room = d.args.room.now in
+    let booking = d.args.booking in
+    let put_in : List Booking → List Booking = λ bs. set bs t.live booking in
+    let a = booking-replaced room room (λ bs. bs) (refl, refl) (base_of t.names) (ap base_of z.names) put_in booked.new.0 t.live booking d.requires.0 (omega arith) booked.ensures refl in
+    counted (on_bookings put_in) (appended_booking booking) room booked.new.0 last.new.0 t.used (t.live + 1) (stays (on_bookings put_in) room booked.new.0 (λ c. refl) d.requires.0 a) a
+    last.ensures (appended (contents_of room) t z.sizes booking)
+
+pub overflow_mul-base : goal.overflow_mul-base
+overflow_mul-base c = let z = sizes c in omega arith
+
+pub overflow_add-base : goal.overflow_add-base
+overflow_add-base c = let z = sizes c in omega arith
+
+pub store_booking-requires : goal.store_booking-requires
+store_booking-requires c = let z = sizes c.before in omega arith
+
+pub overflow_add-sizes : goal.overflow_add-sizes
+overflow_add-sizes c = let z = sizes c.before.before.before.before.before.before in omega arith

@@ -1,0 +1,16 @@
+-- `tables::close_gap` meets its contract: the bytes before k are those that stood a booking further.
+use mathlib.Core.Path.{◌≡◌, refl, ap, ◌∙◌}
+use Prim.Native.Nat.{◌+◌, ◌-◌, ◌≤◌}
+use native.Mathlib.Omega.{arith}
+use borrow.Author.Rules.{rules}
+use lib.ListN.{length, get_or, set, drop, length-set}
+use lib.Seq.{paste}
+use Rattle.records.specs.Layout.{booking_size}
+use Rattle.tables.proofs.Gap.{nearer-turn, nearer-all}
+use Rattle.tables.proofs.close_gap.Given as goal
+
+abbrev pub invariant-loop-k : goal.invariant-loop-k
+invariant-loop-k l = (l.k ≤ l.stop) × (length l.part ≡ length l.initial.part) × (l.part ≡ paste l.initial.part 0 (drop booking_size l.initial.part) l.k)
+
+abbrev pub decreases-loop-k : goal.decreases-loop-k
+decreases-loop-k l = l.stop - l.k

@@ -1,0 +1,19 @@
+-- `tables::lower_owners` meets its contract: the owners before j are renumbered.
+use Prim.Native.Nat.{◌+◌, ◌-◌, ◌≤◌}
+use mathlib.Core.Path.{◌≡◌, refl, sym, ap, subst, ◌∙◌}
+use mathlib.Core.Logic.{⊎_elim}
+use native.Mathlib.Omega.{arith}
+use borrow.Author.Rules.{rules}
+use lib.ListN.{length, get_or}
+use Rattle.numbers.proofs.Bytes.{all-bytes}
+use Rattle.room.specs.Contents.{contents_of, empty_booking, lowered, renumbered}
+use Rattle.tables.specs.Steps.{Becomes, on_bookings}
+use Rattle.tables.proofs.Moving.{renumbered-none, lowered-behind, lowered-up-to}
+use Rattle.tables.proofs.Stores.{SizedBy, sized-by, owner-fits, owner-read, owner-stored, owner-kept}
+use Rattle.tables.proofs.lower_owners.Given as goal
+
+abbrev pub invariant-loop-j : goal.invariant-loop-j
+invariant-loop-j l = (l.j ≤ l.live) × SizedBy (length l.initial.room) (contents_of l.initial.room).sizes × Becomes (on_bookings (renumbered (lowered l.i) l.j)) l.initial.room l.room
+
+abbrev pub decreases-loop-j : goal.decreases-loop-j
+decreases-loop-j l = l.live - l.j

@@ -1,0 +1,43 @@
+-- `tables::move_places_down` meets its contract: the places moved so far are those before j.
+use Prim.Native.Nat.{◌+◌, ◌-◌, ◌≤◌, ◌<◌}
+use mathlib.Core.Path.{◌≡◌, refl, ap, subst}
+use native.Mathlib.Omega.{arith}
+use borrow.Author.Rules.{rules}
+use lib.ListN.{length}
+use Rattle.room.specs.Contents.{contents_of, empty_place}
+use Rattle.tables.specs.Steps.{Becomes, on_places, moved_down}
+use Rattle.tables.proofs.Moving.{down-none, down_turn}
+use Rattle.tables.proofs.Stores.{SizedBy, sized-by, places-length, place-moved}
+use Rattle.tables.proofs.move_places_down.Goals as goal
+
+pub loop-j-init : goal.loop-j-init
+loop-j-init c =
+    let room = c.args.room.now in (
+      omega arith,
+      omega arith,
+      sized-by room c.requires.0,
+      (refl, ap (λ ps. on_places (λ _. ps) (contents_of room)) (down-none c.args.i empty_place (contents_of room).places (rw places-length (omega arith)))),
+    )
+
+pub loop-j-preserved : goal.loop-j-preserved
+loop-j-preserved c =
+    let loaded = c.load_place-moved in
+    let stored = c.store_place in
+    let room = c.args.room.now in
+    let i = c.args.i in
+    let j = c.loop-j.j in (
+      omega arith,
+      omega arith,
+      c.loop-j.invariant.2,
+      place-moved room c.loop-j.room (moved_down i j empty_place) c.loop-j.invariant.3 (moved_down i (j + 1) empty_place) stored.new.0 j (j - 1) empty_place _ c.requires.0
+          (omega arith) (omega arith) loaded.ensures stored.ensures
+          (down_turn i j empty_place (contents_of room).places (omega arith) (rw places-length (omega arith))),
+    )
+
+pub returns : goal.returns
+returns c =
+    let e : c.loop-j.j ≡ c.args.used = omega arith in
+    subst (λ j. Becomes (on_places (moved_down c.args.i j empty_place)) c.args.room.now c.loop-j.room) e c.loop-j.invariant.3
+
+pub shape_of-room : goal.shape_of-room
+shape_of-room c = c.loop-j.invariant.3.0

@@ -1,0 +1,17 @@
+-- `tables::move_places_up` meets its contract: the places moved so far are those from j on.
+use Prim.Native.Nat.{◌-◌, ◌≤◌}
+use mathlib.Core.Path.{◌≡◌, refl, ap, subst}
+use native.Mathlib.Omega.{arith}
+use borrow.Author.Rules.{rules}
+use lib.ListN.{length}
+use Rattle.room.specs.Contents.{contents_of, empty_place}
+use Rattle.tables.specs.Steps.{Becomes, on_places, moved_up}
+use Rattle.tables.proofs.Moving.{up_none, up_turn}
+use Rattle.tables.proofs.Stores.{SizedBy, sized-by, places-length, place-moved}
+use Rattle.tables.proofs.move_places_up.Given as goal
+
+abbrev pub invariant-loop-j : goal.invariant-loop-j
+invariant-loop-j l = (l.i ≤ l.j) × (l.j ≤ l.used) × SizedBy (length l.initial.room) (contents_of l.initial.room).sizes × Becomes (on_places (moved_up l.j l.used empty_place)) l.initial.room l.room
+
+abbrev pub decreases-loop-j : goal.decreases-loop-j
+decreases-loop-j l = l.j

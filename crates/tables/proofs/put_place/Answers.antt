@@ -1,0 +1,20 @@
+-- `tables::put_place` meets its contract: a place in use lies within the room, and `place-put` reads the one store as a change of the contents.
+use Prim.Native.Nat.{◌<◌}
+use native.Mathlib.Omega.{arith}
+use borrow.Author.Rules.{rules}
+use Rattle.room.specs.Contents.{contents_of}
+use Rattle.tables.proofs.Stores.{sized-by, place-put}
+use Rattle.tables.proofs.put_place.Goals as goal
+
+within : (c : goal.Start) → c.args.i < (contents_of c.args.room.now).sizes.names
+within c = let r = sized-by c.args.room.now c.requires.0 in omega arith
+
+pub store_place-requires : goal.store_place-requires
+store_place-requires c =
+    let r = sized-by c.args.room.now c.requires.0 in
+    omega (arith, within c.before.before)
+
+pub returns : goal.returns
+returns c =
+    let stored = c.store_place in
+    place-put c.args.room.now stored.new.0 c.requires.0 c.args.i c.args.place (within c.before.before.before.before.before) stored.ensures.1 stored.ensures.0

@@ -1,0 +1,53 @@
+-- `tables::remove_booking` meets its contract: the last booking, which still stands where it stood, is emptied.
+use Prim.Native.Nat.{◌-◌, ◌≤◌}
+use mathlib.Core.Path.{refl, ap}
+use native.Mathlib.Omega.{arith}
+use borrow.Author.Rules.{rules}
+use lib.ListN.{length}
+use Rattle.room.specs.Contents.{contents_of, base_of, closed, empty_booking, removed_booking}
+use Rattle.tables.specs.Steps.{on_bookings, moved_down}
+use Rattle.tables.proofs.Moving.{closed-set}
+use Rattle.tables.proofs.Stores.{Loaded, loaded, stays, counted, bookings-length, booking-replaced}
+use Rattle.tables.proofs.Whole.{removed}
+use Rattle.tables.proofs.remove_booking.Goals as goal
+
+sizes : (c : goal.After-load_sizes-sizes) → Loaded c.args.room.now c.load_sizes-sizes.result
+sizes c = loaded c.args.room.now c.load_sizes-sizes.result c.requires.0 c.load_sizes-sizes.ensures
+
+pub move_bookings_down-requires : goal.move_bookings_down-requires
+move_bookings_down-requires c =
+    let z = sizes c.before in
+    (c.requires.0, omega arith, omega arith, omega arith)
+
+pub returns : goal.returns
+returns c =
+    let d = c in
+    let t = d.load_sizes-sizes.result in
+    let z = sizes d.before.before.before.before.before.before.before.before.before.before.before.before.before in
+    let moved = c.move_bookings_down in
+    let emptied = c.store_booking in
+    let last = c.store_counts in
+    let room = d.args.room.now in
+    let i = d.args.i in
+    let bs = (contents_of room).bookings in
+    let all : t.live ≤ length bs = rw bookings-length (omega arith) in
+    let taken_out = closed i t.live empty_booking in
+    let a = booking-replaced room moved.new.0 (moved_down i t.live empty_booking) moved.ensures (base_of t.names) (ap base_of z.names) taken_out emptied.new.0 (t.live - 1) empty_booking d.requires.0
+    (omega arith) emptied.ensures (closed-set i t.live _ empty_booking bs (omega arith) all) in
+    counted (on_bookings taken_out) (removed_booking i) room emptied.new.0 last.new.0 t.used (t.live - 1) (stays (on_bookings taken_out) room emptied.new.0 (λ c. refl) d.requires.0 a) a
+    last.ensures (removed (contents_of room) t z.sizes i)
+
+pub overflow_mul-base : goal.overflow_mul-base
+overflow_mul-base c = let z = sizes c in omega arith
+
+pub overflow_add-base : goal.overflow_add-base
+overflow_add-base c = let z = sizes c in omega arith
+
+pub overflow_sub-live : goal.overflow_sub-live
+overflow_sub-live c = let z = sizes c.before.before.before.before.before in omega arith
+
+pub store_booking-requires : goal.store_booking-requires
+store_booking-requires c = let z = sizes c.before.before.before.before.before in omega arith
+
+pub overflow_sub-sizes : goal.overflow_sub-sizes
+overflow_sub-sizes c = let z = sizes c.before.before.before.before.before.before.before.before.before.before in omega arith

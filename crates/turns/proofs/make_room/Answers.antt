@@ -1,0 +1,20 @@
+-- `turns::make_room`: `to_front` leaves at the front what was held; Reading.antt has what it is then, held on (`stays-held`) or handed on
+-- (`too-long-to-hold`).
+use Prim.Native.Nat.{◌-◌}
+use native.Mathlib.Omega.{arith}
+use borrow.Author.Rules.{rules}
+use Rattle.records.specs.Rows.{row}
+use Rattle.turns.proofs.Reading.{stays-held, too-long-to-hold}
+use Rattle.turns.proofs.make_room.Goals as goal
+
+pub returns-then-size-input : goal.returns-then-size-input
+returns-then-size-input c =
+    let f = c.to_front-size in
+    let a = c.args in
+    ((omega arith, omega (arith, c.if-size-input.true, f.auto)), stays-held (row (a.end - a.from) a.from a.input.now) f.new.0 f.result f.ensures.1)
+
+pub returns : goal.returns
+returns c =
+    let f = c.to_front-size in
+    let a = c.args in
+    ((omega arith, omega (arith, c.requires.2, f.auto)), too-long-to-hold (row (a.end - a.from) a.from a.input.now) f.new.0 f.result f.ensures.1 (omega (arith, c.if-size-input.false, f.auto)))

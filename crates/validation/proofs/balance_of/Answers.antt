@@ -1,0 +1,98 @@
+-- `validation::balance_of` meets its contract: the total of two words is the exact sum, fitted or not, and code compares amounts by their bits, which are
+-- equal just where the amounts are. Each return is one law of Balancing.
+use mathlib.Core.Path.{◌≡◌, refl, sym, ◌∙◌, ap}
+use mathlib.Core.Logic.{◌≢◌}
+use mathlib.Core.Bool.{true, false}
+use borrow.Author.Rules.{rules}
+use mathlib.Core.Option.{some}
+use lib.IntN.{ℤ, ◌+ℤ◌, ◌-ℤ◌, +ℤ_idl}
+use mir.Syntax.{w64}
+use mir.Val.{of_z, to_z}
+use Rattle.rules.specs.SnapshotsMigrationCertificates.{fits64}
+use Rattle.rules.specs.AnswerNumbers.{ConservationViolation}
+use Rattle.numbers.proofs.Amounts.{held-is}
+use Rattle.totals.specs.Totals.{value_of, fitted}
+use Rattle.totals.proofs.Fitting.{fits-is, outside-is}
+use Rattle.validation.proofs.Balancing.{overflows, delta-overflows, differs, is_negative, balanced}
+use Rattle.validation.proofs.Deciding.{sign-is}
+use Rattle.validation.proofs.balance_of.Goals as goal
+
+-- ── the exact sum ──────────────────────────────────────────────────────────────────────────────
+
+module _ (c : goal.After-fit) where
+  abbrev entry : goal.Start
+  entry = c.before.before.before.before.before
+
+  abbrev initial : ℤ
+  initial = entry.args.initial.0
+
+  abbrev remaining : ℤ
+  remaining = entry.args.remaining.0
+
+  abbrev reserved : ℤ
+  reserved = entry.args.reserved.0
+
+  abbrev committed : ℤ
+  committed = entry.args.committed.0
+
+  abbrev exact : ℤ
+  exact = remaining +ℤ reserved +ℤ committed
+
+  sum_is : value_of c.plus-sum.result ≡ exact
+  sum_is =
+      let first = c.plus.ensures.0 ∙ ap (λ z. z +ℤ remaining) c.nothing.ensures.0 ∙ +ℤ_idl remaining in
+      let second = c.plus-held.ensures.0 ∙ ap (λ z. z +ℤ reserved) first in
+      c.plus-sum.ensures.0 ∙ ap (λ z. z +ℤ committed) second
+
+  fitted-sum : fitted exact ≡ c.fit.result
+  fitted-sum = sym (c.fit.ensures ∙ ap fitted sum_is)
+
+pub returns-in_default : goal.returns-in_default
+returns-in_default c a = sym (overflows a (initial c.before.before) (remaining c.before.before) (reserved c.before.before) (committed c.before.before) (outside-is (exact c.before.before) (fitted-sum c.before.before ∙ c.in_default.is)))
+
+-- ── the sum against initial ────────────────────────────────────────────────────────────────────
+
+module _ (c : goal.After-struct_told-2-1) where
+  abbrev summed : goal.After-fit
+  summed = c.before.before.before.before.before.before.before
+
+  abbrev found : ℤ
+  found = c.in-Fits.exact.0
+
+  found_is : (found ≡ exact summed) × (fits64 (exact summed) ≡ true)
+  found_is = let told = c.exact-1.given in fits-is (exact summed) told.0.0 (fitted-sum summed ∙ told.1)
+
+  equal : of_z w64 found ≡ of_z w64 (initial summed) → exact summed ≡ initial summed
+  equal e = sym found_is.0 ∙ sym (held-is found c.struct_told-1.given.0.1) ∙ ap (to_z w64) e ∙ held-is (initial summed) c.struct_told-2-1.given.0.1
+
+  other : (of_z w64 found ≡ of_z w64 (initial summed) → ⊥) → exact summed ≢ initial summed
+  other n e = n (ap (of_z w64) (found_is.0 ∙ e))
+
+pub returns-then-remaining-lt0 : goal.returns-then-remaining-lt0
+returns-then-remaining-lt0 c a =
+    let f = summed c.before.before.before.before in
+    sym (is_negative a (initial f) (remaining f) (reserved f) (committed f) (found_is c.before.before.before.before).1 (equal c.before.before.before.before c.if-exact-initial.true) (sign-is {z = remaining f} true refl c.struct_told-then-exact-initial-1.given.0.1 c.if-remaining-lt0.true))
+
+pub returns-then-exact-initial : goal.returns-then-exact-initial
+returns-then-exact-initial c a =
+    let f = summed c.before.before.before.before in
+    sym (balanced a (initial f) (remaining f) (reserved f) (committed f) (found_is c.before.before.before.before).1 (equal c.before.before.before.before c.if-exact-initial.true) (sign-is {z = remaining f} false refl c.struct_told-then-exact-initial-1.given.0.1 c.if-remaining-lt0.false))
+
+-- ── the difference ─────────────────────────────────────────────────────────────────────────────
+
+fitted-delta : (c : goal.After-fit-2) → let f = summed c.before.before.before in fitted (exact f -ℤ initial f) ≡ c.fit-2.result
+fitted-delta c =
+    let f = summed c.before.before.before in
+    sym (c.fit-2.ensures ∙ ap fitted (c.minus.ensures.0 ∙ ap (λ z. z -ℤ initial f) (sum_is f)))
+
+pub returns-in_default-fit : goal.returns-in_default-fit
+returns-in_default-fit c a =
+    let f = summed c.before.before.before.before.before in
+    sym (delta-overflows a (initial f) (remaining f) (reserved f) (committed f) (found_is c.before.before.before.before.before).1 (other c.before.before.before.before.before c.if-exact-initial.false) (outside-is (exact f -ℤ initial f) (fitted-delta c.before.before ∙ c.in_default-fit.is)))
+
+pub returns : goal.returns
+returns c a =
+    let f = summed c.before.before.before.before.before.before in
+    let told = c.delta-1.given in
+    let (is, fits) = fits-is (exact f -ℤ initial f) told.0.0 (fitted-delta c.before.before.before ∙ told.1) in
+    ap (λ z. some (ConservationViolation a z)) is ∙ sym (differs a (initial f) (remaining f) (reserved f) (committed f) (found_is c.before.before.before.before.before.before).1 (other c.before.before.before.before.before.before c.if-exact-initial.false) fits)

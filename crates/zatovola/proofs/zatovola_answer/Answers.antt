@@ -1,0 +1,52 @@
+-- `zatovola::zatovola_answer`: the frame read is the bytes' operation, so `room_for` is its room, and the test tells which promise is due. What `is_sound`
+-- decides is what is known of the memory (`found` of lines).
+use mathlib.Core.Path.{◌≡◌, refl, ap, subst, ◌∙◌}
+use mathlib.Core.Option.{Option}
+use Prim.Native.Nat.{◌≤◌}
+use native.Mathlib.Omega.{arith}
+use borrow.Author.Rules.{rules}
+use lib.ListN.{length}
+use Rattle.rules.specs.AnswerNumbers.{Lent}
+use Rattle.rules.specs.Frames.{Operation, operation_of_frame}
+use Rattle.frames.specs.Answering.{IsLent, AnswersOperation, room_for}
+use Rattle.lines.proofs.AnswerLines.{found}
+use Rattle.zatovola.proofs.zatovola_answer.Goals as goal
+
+module _ (c : goal.After-room_for) where
+  abbrev start : goal.Start
+  start = c.before.before.before.before.before
+
+  abbrev operation : Option Operation
+  operation = operation_of_frame start.args.frame.now
+
+  needed-is : c.room_for.result ≡ room_for operation
+  needed-is = let read = c.read-operation in c.room_for.ensures start.args.frame.now read.ensures.1 ∙ ap room_for read.ensures.0
+
+module _ (c : goal.After-answer) where
+  abbrev roomed : goal.After-room_for
+  roomed = c.before.before.before.before.before
+
+  room : room_for (operation roomed) ≤ length (start roomed).args.output.now
+  room = omega (arith, needed-is roomed, c.if-output-room_for.false)
+
+  -- what is promised of the call, for an operation
+  abbrev Answered : Lent → Option Operation → Type 0
+  Answered l o =
+      let a = (start roomed).args in
+      AnswersOperation o l a.room.now c.answer.new.room a.output.now c.answer.new.output c.answer.result
+
+  answers : (l : Lent) → IsLent (start roomed).args.room.now l → Answered l (operation roomed)
+  answers l is_lent = subst (Answered l) roomed.read-operation.ensures.0 (c.answer.ensures l is_lent)
+
+pub returns-then-output-room_for : goal.returns-then-output-room_for
+returns-then-output-room_for c l is_lent = record { answered = λ room. absurd (omega (arith, room, needed-is c.before, c.if-output-room_for.true)); too_short = λ _. (refl, refl, refl) }
+
+pub answer-requires : goal.answer-requires
+answer-requires c =
+    let read = c.read-operation in
+    let needed = c.room_for.ensures _ read.ensures.1 in
+    (found c.is_sound-known.result c.is_sound-known.ensures, (read.ensures.1, omega (arith, c.if-output-room_for.false, needed)))
+
+pub returns : goal.returns
+returns c l is_lent =
+    record { answered = λ _. answers c.before.before.before.before l is_lent; too_short = λ short. absurd (omega (arith, short, room c.before.before.before.before)) }
