@@ -6,15 +6,20 @@ use lib.ListN.{length}
 use Rattle.rules.specs.RoomAndSoundLedger.{longest_name}
 use Rattle.answer_bytes.proofs.Parts.{byte-is, number-written, name-written, value-behind}
 use borrow.Author.Rules.{rules}
+use Rattle.answer_bytes.proofs.write_named_field.Lts as place
+use Rattle.answer_bytes.proofs.write_named_field.Tie as tie
 use Rattle.answer_bytes.proofs.write_named_field.Goals as goal
 
+abbrev Start : Type 0
+Start = place.Start tie.the-claims tie.handed_pre tie.handed_post
+
 -- an array has all its bytes; from where the function returns, search does not look back as far
-held : (c : goal.Start) → length c.args.name.bytes ≡ longest_name
+held : (c : Start) → length c.args.name.bytes ≡ longest_name
 held c = search rules
 
 pub returns : goal.returns
 returns c v w is_field is_is_word =
-    let named = name-written c.args.name (held c.before.before.before.before.before.before.before.before.before.before.before.before.before.before.before.before.before.before) c.requires.1 (number-written c.write1.ensures) c.write_name.ensures in
+    let named = name-written c.args.name (held c.before.before.before.before.before.before.before.before.before.before.before.before.before.before.before.before.before.before.before) c.requires.1 (number-written c.write1.ensures) c.write_name.ensures in
     let field = value-behind named 1 _ v is_field (c.write1-2.ensures ∙ byte-is c.args.field) in
     value-behind field 8 _ w is_is_word c.write8.ensures
 

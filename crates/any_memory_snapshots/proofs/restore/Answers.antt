@@ -6,11 +6,10 @@ use Rattle.any_memory_snapshots.proofs.FirstChecked.{refused, known, answered}
 use Rattle.any_memory_snapshots.proofs.restore.Goals as goal
 
 pub returns-in_default : goal.returns-in_default
-returns-in_default c = (refused c.first_check-first.ensures restore c.nameless.ensures c.in-Done.keys2, nameless-form c.nameless.ensures)
+returns-in_default c = record { answers = refused c.first_check-first.ensures restore c.nameless.ensures c.in-Done.keys2; form = nameless-form c.nameless.ensures }
 
 pub returns : goal.returns
-returns c =
-    (answered c.first_check-first.ensures c.in-Done.is restore (search rules), search rules)
+returns c = record { answers = answered c.first_check-first.ensures c.in-Done.is restore (search rules); form = search rules }
 
 pub restore-requires : goal.restore-requires
 restore-requires c = known c.first_check-first.ensures c.in-Done.is

@@ -14,4 +14,4 @@ snapshot-requires c = c.is_sound.ensures.holds (not-false _ c.if-not-is_sound.fa
 
 pub returns : goal.returns
 returns c =
-    (answered _ _ _ c.is_sound.ensures c.if-not-is_sound.false-raw _ _ c.snapshot.ensures.0, c.snapshot.ensures.1)
+    (answered _ _ _ c.is_sound.ensures c.if-not-is_sound.false-raw _ _ c.snapshot.ensures.performs, c.snapshot.ensures.output)

@@ -9,10 +9,10 @@ use Rattle.any_memory_snapshots.proofs.status.Goals as goal
 
 pub returns-then-not-is_snapshot : goal.returns-then-not-is_snapshot
 unfolding reply_or
-returns-then-not-is_snapshot c = (bad-judged _ _ c.is_snapshot.ensures status _ c.if-not-is_snapshot.true-raw (ap judged_reply c.nameless.ensures), nameless-form c.nameless.ensures)
+returns-then-not-is_snapshot c = record { answer = bad-judged _ _ c.is_snapshot.ensures status _ c.if-not-is_snapshot.true-raw (ap judged_reply c.nameless.ensures); form = nameless-form c.nameless.ensures }
 
 pub status-requires : goal.status-requires
 status-requires c = is-snapshot _ _ c.is_snapshot.ensures c.if-not-is_snapshot.false-raw
 
 pub returns : goal.returns
-returns c = (judged _ _ c.is_snapshot.ensures status _ c.if-not-is_snapshot.false-raw c.status.ensures.0, c.status.ensures.1)
+returns c = record { answer = judged _ _ c.is_snapshot.ensures status _ c.if-not-is_snapshot.false-raw c.status.ensures.answer; form = c.status.ensures.form }

@@ -10,9 +10,14 @@ use mir.Val.{to_z}
 use Rattle.rules.specs.SnapshotsMigrationCertificates.{signed}
 use Rattle.numbers.proofs.Amounts.{held-is}
 use Rattle.big_endian.proofs.TwosComplement.{signed_high, brought-down}
+use Rattle.big_endian.proofs.signed.Lts as place
+use Rattle.big_endian.proofs.signed.Tie as tie
 use Rattle.big_endian.proofs.signed.Goals as goal
 
-module _ (c : goal.Else-word-lt-TAG) where
+abbrev Else-word-lt-TAG : Type 0
+Else-word-lt-TAG = place.Else1 tie.handed_pre tie.handed_post
+
+module _ (c : Else-word-lt-TAG) where
   abbrev sum : ℤ
   sum = to_z w64 (c.args.word - 2 ^ 63) +ℤ negsuc (2 ^ 63 - 1)
 

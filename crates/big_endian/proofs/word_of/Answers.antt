@@ -10,11 +10,19 @@ use mir.Val.{Fits, SFits}
 use Rattle.rules.specs.SnapshotsMigrationCertificates.{twos_complement}
 use Rattle.numbers.proofs.Amounts.{held, held-is}
 use Rattle.big_endian.proofs.TwosComplement.{not_negative, negative, lifted}
+use Rattle.big_endian.proofs.word_of.Lts as place
+use Rattle.big_endian.proofs.word_of.Tie as tie
 use Rattle.big_endian.proofs.word_of.Goals as goal
+
+abbrev Then-x-ge0 : Type 0
+Then-x-ge0 = place.Then1 tie.handed_pre tie.handed_post
+
+abbrev Else-x-ge0 : Type 0
+Else-x-ge0 = place.Else1 tie.handed_pre tie.handed_post
 
 -- ── an amount not below 0 ──────────────────────────────────────────────────────────────────────
 
-module _ (c : goal.Then-x-ge0) where
+module _ (c : Then-x-ge0) where
   abbrev amount : ℤ
   amount = c.args.amount.0
 
@@ -33,7 +41,7 @@ returns-then-x-ge0 c = ap nat_abs (held-amount c ∙ is-natural c) ∙ sym (ap t
 
 -- ── an amount below 0 ──────────────────────────────────────────────────────────────────────────
 
-module _ (c : goal.Else-x-ge0) where
+module _ (c : Else-x-ge0) where
   abbrev amount' : ℤ
   amount' = c.args.amount.0
 

@@ -15,9 +15,20 @@ use Rattle.certificates.specs.Certified.{rotation_of, summary_of}
 use Rattle.certificates.proofs.Certifying.{since-small}
 use Rattle.certificates.proofs.Summarizing.{Taking, told-exhausted, told-taken}
 use Rattle.certificates.proofs.Taking.{rotated_in, certificate-sound, own-balanced, certificate-is, stays, becomes}
+use Rattle.certificates.proofs.of_ledger.Lts as place
+use Rattle.certificates.proofs.of_ledger.Tie as tie
 use Rattle.certificates.proofs.of_ledger.Goals as goal
 
-abbrev room : goal.Start → List ℕ
+abbrev Start : Type 0
+Start = place.Start tie.the-claims tie.handed_pre tie.handed_post
+
+abbrev In-Taken-2 : Type 0
+In-Taken-2 = place.After-summary tie.the-claims tie.handed_pre tie.handed_post
+
+abbrev After-rotation-rotated : Type 0
+After-rotation-rotated = place.After-rotation tie.the-claims tie.handed_pre tie.handed_post
+
+abbrev room : Start → List ℕ
 room s = s.args.room.now
 
 -- no id is left to draw
@@ -26,11 +37,11 @@ unfolding certificate_of_ledger
 returns-in_default c L r =
     stays (room c.before.before.before.before) L r certificate_of_ledger _ refl (told-exhausted L c.summarize.result (c.summarize.ensures L r) c.in_default.is)
 
-module _ (c : goal.After-rotation-rotated) where
-  abbrev summed : goal.In-Taken-2
+module _ (c : After-rotation-rotated) where
+  abbrev summed : In-Taken-2
   summed = c.before.before.before
 
-  abbrev start : goal.Start
+  abbrev start : Start
   start = summed.before.before.before.before
 
   module _ (L : Ledger) (r : IsRoom (room start) L) where
@@ -48,16 +59,16 @@ put_head-requires c = let s = start c.before.before in sized (room s) s.requires
 
 pub amount-since-requires : goal.amount-since-requires
 amount-since-requires c =
-    let s = start c.before.before.before.before.before in
+    let s = start c.before.before.before.before.before.before in
     let L = s.requires.ledger in
-    omega (arith, ap (λ r. r.since) (rotated c.before.before.before.before.before L s.requires.is_room), since-small (account_rows L.places) (summary_of L).head (committed_total L.places) (committed-rows-total L.places))
+    omega (arith, ap (λ r. r.since) (rotated c.before.before.before.before.before.before L s.requires.is_room), since-small (account_rows L.places) (summary_of L).head (committed_total L.places) (committed-rows-total L.places))
 
 pub returns : goal.returns
 returns c L r =
-    let e = (taken c.before.before.before.before.before.before.before L r).summary in
-    let turned = rotated c.before.before.before.before.before.before.before L r in
+    let e = (taken c.before.before.before.before.before.before.before.before L r).summary in
+    let turned = rotated c.before.before.before.before.before.before.before.before L r in
     let reply =
     c.certify.ensures (snapshot_of L) (ap (λ s. s.head.last_version) e) (ap (λ s. s.rows) e) (ap (λ s. s.active) e) (own-balanced L r.sound) (ap (λ s. s.totals) e)
     ∙ ap (certificate (snapshot_of L)) (c.amount-since.ensures ∙ ap (λ o. pos o.since) turned) in
-    becomes (room (start c.before.before.before.before.before.before.before)) L r certificate_of_ledger (certificate-sound L r.sound) _ _ c.rotation-rotated.result.head (rotated_in L).head (certificate-is L (taken c.before.before.before.before.before.before.before L r).not_last) reply
+    becomes (room (start c.before.before.before.before.before.before.before.before)) L r certificate_of_ledger (certificate-sound L r.sound) _ _ c.rotation-rotated.result.head (rotated_in L).head (certificate-is L (taken c.before.before.before.before.before.before.before.before L r).not_last) reply
     (ap (λ o. o.head) turned) c.put_head.new.room c.put_head.ensures

@@ -11,9 +11,20 @@ use Rattle.certificates.specs.declared.Summary.{Summary}
 use Rattle.certificates.proofs.Certifying.{told-outside, told_fit}
 use Rattle.certificates.proofs.Summarizing.{Taking, told-exhausted, told-taken}
 use Rattle.certificates.proofs.Taking.{proof-sound, proof-overflows, proved, proof-is, stays, becomes}
+use Rattle.certificates.proofs.prove.Lts as place
+use Rattle.certificates.proofs.prove.Tie as tie
 use Rattle.certificates.proofs.prove.Goals as goal
 
-abbrev room : goal.Start → List ℕ
+abbrev Start : Type 0
+Start = place.Start tie.the-claims tie.handed_pre tie.handed_post
+
+abbrev In-Taken-2 : Type 0
+In-Taken-2 = place.After-summary tie.the-claims tie.handed_pre tie.handed_post
+
+abbrev After-put_head-arg-1 : Type 0
+After-put_head-arg-1 = place.After-put_head-arg tie.the-claims tie.handed_pre tie.handed_post
+
+abbrev room : Start → List ℕ
 room s = s.args.room.now
 
 -- no id is left to draw
@@ -22,11 +33,11 @@ unfolding conservation_proof
 returns-in_default c L r =
     stays (room c.before.before.before.before) L r conservation_proof _ refl (told-exhausted L c.summarize.result (c.summarize.ensures L r) c.in_default.is)
 
-module _ (c : goal.After-put_head-arg-1) where
-  abbrev summed : goal.In-Taken-2
+module _ (c : After-put_head-arg-1) where
+  abbrev summed : In-Taken-2
   summed = c.before.before.before
 
-  abbrev start : goal.Start
+  abbrev start : Start
   start = summed.before.before.before.before
 
   abbrev summary : Summary
@@ -41,15 +52,15 @@ put_head-requires c = let s = start c in sized (room s) s.requires.ledger s.requ
 -- the totals do not fit, and the head is stamped
 pub returns-in_default-totals : goal.returns-in_default-totals
 returns-in_default-totals c L r =
-    let t = taken c.before.before.before.before.before L r in
-    let outside = told-outside (account_rows L.places) (summary c.before.before.before.before.before).totals (ap (λ s. s.totals) t.summary) c.in_default-totals.is in
-    becomes (room (start c.before.before.before.before.before)) L r conservation_proof (proof-sound L r.sound) _ _ (summary c.before.before.before.before.before).head (summary_of L).head (proof-overflows L t.not_last outside) refl
+    let t = taken c.before.before.before.before.before.before L r in
+    let outside = told-outside (account_rows L.places) (summary c.before.before.before.before.before.before).totals (ap (λ s. s.totals) t.summary) c.in_default-totals.is in
+    becomes (room (start c.before.before.before.before.before.before)) L r conservation_proof (proof-sound L r.sound) _ _ (summary c.before.before.before.before.before.before).head (summary_of L).head (proof-overflows L t.not_last outside) refl
     (ap (λ s. s.head) t.summary) c.put_head.new.room c.put_head.ensures
 
 pub returns : goal.returns
 returns c L r =
     let totals = c.totals-1 in
-    let t = taken c.before.before.before.before.before.before L r in
-    let fitting = told_fit (account_rows L.places) (summary c.before.before.before.before.before.before).totals (ap (λ s. s.totals) t.summary) _ _ totals.given.1 in
-    becomes (room (start c.before.before.before.before.before.before)) L r conservation_proof (proof-sound L r.sound) _ _ (summary c.before.before.before.before.before.before).head (summary_of L).head (proof-is L t.not_last _ _ fitting)
+    let t = taken c.before.before.before.before.before.before.before L r in
+    let fitting = told_fit (account_rows L.places) (summary c.before.before.before.before.before.before.before).totals (ap (λ s. s.totals) t.summary) _ _ totals.given.1 in
+    becomes (room (start c.before.before.before.before.before.before.before)) L r conservation_proof (proof-sound L r.sound) _ _ (summary c.before.before.before.before.before.before.before).head (summary_of L).head (proof-is L t.not_last _ _ fitting)
     (ap (λ s. proved s totals.given.0.0 totals.given.0.1.0) t.summary) (ap (λ s. s.head) t.summary) c.put_head.new.room c.put_head.ensures

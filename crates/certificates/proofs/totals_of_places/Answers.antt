@@ -14,16 +14,30 @@ use Rattle.room.proofs.SoundRoom.{sized}
 use Rattle.certificates.specs.Certified.{both_fitted}
 use Rattle.certificates.proofs.Adding.{may_add}
 use Rattle.certificates.proofs.OverPlaces.{initials, commits, PlacesAdded, places-none, places-next, places-all, AmountsSmall, amounts-small}
+use Rattle.certificates.proofs.totals_of_places.Lts as place
+use Rattle.certificates.proofs.totals_of_places.Tie as tie
 use Rattle.certificates.proofs.totals_of_places.Goals as goal
 
-in_use : (c : goal.After-load_sizes-sizes) → c.load_sizes-sizes.result.used ≡ (sizes_of c.args.room.now).used
+abbrev Start : Type 0
+Start = place.Start tie.the-claims tie.handed_pre tie.handed_post goal.the-invariant-loop-i goal.the-decreases-loop-i
+
+abbrev After-load_sizes-sizes : Type 0
+After-load_sizes-sizes = place.After-load_sizes tie.the-claims tie.handed_pre tie.handed_post goal.the-invariant-loop-i goal.the-decreases-loop-i
+
+abbrev In-loop-i : Type 0
+In-loop-i = place.In-loop tie.the-claims tie.handed_pre tie.handed_post goal.the-invariant-loop-i goal.the-decreases-loop-i
+
+abbrev After-load_place-place : Type 0
+After-load_place-place = place.After-load_place tie.the-claims tie.handed_pre tie.handed_post goal.the-invariant-loop-i goal.the-decreases-loop-i
+
+in_use : (c : After-load_sizes-sizes) → c.load_sizes-sizes.result.used ≡ (sizes_of c.args.room.now).used
 in_use c = ap (λ s. s.used) c.load_sizes-sizes.ensures
 
-size : (c : goal.Start) → Sized c.args.room.now
+size : (c : Start) → Sized c.args.room.now
 size c = sized c.args.room.now c.requires.ledger c.requires.is_room
 
 pub load_sizes-sizes-requires : goal.load_sizes-sizes-requires
-load_sizes-sizes-requires c = omega (arith, (size c.before).size)
+load_sizes-sizes-requires c = omega (arith, (size c.before.before).size)
 
 pub loop-i-init : goal.loop-i-init
 loop-i-init c =
@@ -32,8 +46,8 @@ loop-i-init c =
 
 -- ── a turn ─────────────────────────────────────────────────────────────────────────────────────
 
-module _ (c : goal.In-loop-i) where
-  abbrev start : goal.Start
+module _ (c : In-loop-i) where
+  abbrev start : Start
   start = c.before.before.before.before.before.before
 
   abbrev room : List ℕ
@@ -53,20 +67,20 @@ module _ (c : goal.In-loop-i) where
   few = let z = size start in omega (arith, z, passing)
 
 pub load_place-place-requires : goal.load_place-place-requires
-load_place-place-requires c = let z = size (start c) in omega (arith, z, passing c)
+load_place-place-requires c = let z = size (start c.before) in omega (arith, z, passing c.before)
 
-small : (c : goal.After-load_place-place) → AmountsSmall c.load_place-place.result
+small : (c : After-load_place-place) → AmountsSmall c.load_place-place.result
 small c = subst AmountsSmall (sym c.load_place-place.ensures) (amounts-small (room c.before) (start c.before).requires.ledger (is_room c.before) (i c.before) (passing c.before))
 
 pub plus-initial-requires : goal.plus-initial-requires
-plus-initial-requires c = may_add (i c.before.before) _ c.loop-i.initial' c.loop-i.invariant.1 (few c.before.before)
+plus-initial-requires c = may_add (i c.before.before.before) _ c.loop-i.initial' c.loop-i.invariant.1 (few c.before.before.before)
 
 pub plus-committed-requires : goal.plus-committed-requires
 plus-committed-requires c =
-    may_add (i c.before.before.before.before) _ c.loop-i.committed c.loop-i.invariant.2 (few c.before.before.before.before)
+    may_add (i c.before.before.before.before.before) _ c.loop-i.committed c.loop-i.invariant.2 (few c.before.before.before.before.before)
 
 pub overflow_add-i : goal.overflow_add-i
-overflow_add-i c = record { fits = omega (arith, few c.before.before.before.before.before) }
+overflow_add-i c = record { fits = omega (arith, few c.before.before.before.before.before.before) }
 
 pub loop-i-preserved : goal.loop-i-preserved
 loop-i-preserved c =
@@ -74,9 +88,9 @@ loop-i-preserved c =
     let t = p in
     let l = t.loop-i in (
       omega (arith, t.loop-i-test.true),
-      places-next initials (room t.before.before.before.before.before) (start t.before.before.before.before.before).requires.ledger (is_room t.before.before.before.before.before) (i t.before.before.before.before.before) l.initial l.invariant.1 (passing t.before.before.before.before.before) c.amount.result c.plus-initial.result
+      places-next initials (room t.before.before.before.before.before.before) (start t.before.before.before.before.before.before).requires.ledger (is_room t.before.before.before.before.before.before) (i t.before.before.before.before.before.before) l.initial l.invariant.1 (passing t.before.before.before.before.before.before) c.amount.result c.plus-initial.result
           (c.amount.ensures ∙ ap (λ p. pos p.initial) p.load_place-place.ensures) c.plus-initial.ensures,
-      places-next commits (room t.before.before.before.before.before) (start t.before.before.before.before.before).requires.ledger (is_room t.before.before.before.before.before) (i t.before.before.before.before.before) l.committed l.invariant.2 (passing t.before.before.before.before.before) c.amount-in-loop-i.result c.plus-committed.result
+      places-next commits (room t.before.before.before.before.before.before) (start t.before.before.before.before.before.before).requires.ledger (is_room t.before.before.before.before.before.before) (i t.before.before.before.before.before.before) l.committed l.invariant.2 (passing t.before.before.before.before.before.before) c.amount-in-loop-i.result c.plus-committed.result
           (c.amount-in-loop-i.ensures ∙ ap (λ p. pos p.committed) p.load_place-place.ensures) c.plus-committed.ensures,
     )
 
@@ -86,11 +100,11 @@ pub returns : goal.returns
 returns c L is_room =
     let l = c.loop-i in
     let room = c.args.room.now in
-    let passed : (sizes_of room).used ≤ l.i = omega (arith, in_use c.before.before.before.before.before, c) in
+    let passed : (sizes_of room).used ≤ l.i = omega (arith, in_use c.before.before.before.before.before.before, c) in
     c.fit_both.ensures ∙ ap₂ both_fitted (places-all initials room L is_room l.i l.initial l.invariant.1 passed) (places-all commits room L is_room l.i l.committed l.invariant.2 passed)
 
 pub amount-requires : goal.amount-requires
-amount-requires c = omega (arith, small c)
+amount-requires c = omega (arith, small c.before)
 
 pub amount-requires-in-loop-i : goal.amount-requires-in-loop-i
-amount-requires-in-loop-i c = omega (arith, small c.before.before)
+amount-requires-in-loop-i c = omega (arith, small c.before.before.before)

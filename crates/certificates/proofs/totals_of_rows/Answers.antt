@@ -14,16 +14,27 @@ use Rattle.snapshot_reader.proofs.Header.{header}
 use Rattle.snapshot_reader.proofs.Rows.{Ends, start, stands, forward, advance, finished}
 use Rattle.certificates.specs.Certified.{both_fitted}
 use Rattle.certificates.proofs.Adding.{may_add, RowsAdded, rows_none, rows_next}
+use Rattle.certificates.proofs.totals_of_rows.Lts as place
+use Rattle.certificates.proofs.totals_of_rows.Tie as tie
 use Rattle.certificates.proofs.totals_of_rows.Invariants.{BothAdded}
 use Rattle.certificates.proofs.totals_of_rows.Goals as goal
+
+abbrev Start : Type 0
+Start = place.Start tie.the-claims tie.handed_pre tie.handed_post goal.the-invariant-loop-at goal.the-decreases-loop-at
+
+abbrev In-loop-at : Type 0
+In-loop-at = place.In-loop tie.the-claims tie.handed_pre tie.handed_post goal.the-invariant-loop-at goal.the-decreases-loop-at
+
+abbrev After-read_row-row : Type 0
+After-read_row-row = place.After-read_row tie.the-claims tie.handed_pre tie.handed_post goal.the-invariant-loop-at goal.the-decreases-loop-at
 
 pub loop-at-init : goal.loop-at-init
 loop-at-init c s e = start (header _ s e).from (rows_none (λ r. r.initial) c.nothing-initial.result c.nothing-initial.ensures, rows_none (λ r. r.committed) c.nothing-committed.result c.nothing-committed.ensures)
 
 -- ── a turn ─────────────────────────────────────────────────────────────────────────────────────
 
-module _ (c : goal.In-loop-at) where
-  abbrev entry : goal.Start
+module _ (c : In-loop-at) where
+  abbrev entry : Start
   entry = c.before.before.before.before.before
 
   abbrev bytes : List ℕ
@@ -40,12 +51,12 @@ module _ (c : goal.In-loop-at) where
   few = omega (arith, (header bytes entry.requires.snapshot entry.requires.is_read).few, ap length passed.rows, length-append passed.earlier passed.later)
 
 pub plus-initial-requires : goal.plus-initial-requires
-plus-initial-requires c = may_add (length (passed c.before.before).earlier) _ c.loop-at.initial' (passed c.before.before).so_far.0 (few c.before.before)
+plus-initial-requires c = may_add (length (passed c.before.before.before).earlier) _ c.loop-at.initial' (passed c.before.before.before).so_far.0 (few c.before.before.before)
 
 pub plus-committed-requires : goal.plus-committed-requires
-plus-committed-requires c = may_add (length (passed c.before.before.before.before).earlier) _ c.loop-at.committed (passed c.before.before.before.before).so_far.1 (few c.before.before.before.before)
+plus-committed-requires c = may_add (length (passed c.before.before.before.before.before).earlier) _ c.loop-at.committed (passed c.before.before.before.before.before).so_far.1 (few c.before.before.before.before.before)
 
-module _ (c : goal.After-read_row-row) where
+module _ (c : After-read_row-row) where
   ends : Ends (bytes c.before) c.loop-at.at c.read_row-row.result.name_end
   ends row later from = (c.read_row-row.ensures row later from).ends_name
 
@@ -53,7 +64,7 @@ module _ (c : goal.After-read_row-row) where
   end_is = let h = here c.before in (c.read_row-row.ensures h.row h.later h.from).end
 
 pub loop-at-smaller : goal.loop-at-smaller
-loop-at-smaller c = omega (arith, end_is c.before.before.before.before, forward (here c.before.before.before.before.before) (ends c.before.before.before.before))
+loop-at-smaller c = omega (arith, end_is c.before.before.before.before.before, forward (here c.before.before.before.before.before.before) (ends c.before.before.before.before.before))
 
 pub loop-at-preserved : goal.loop-at-preserved
 loop-at-preserved c s e =
@@ -61,8 +72,8 @@ loop-at-preserved c s e =
     let t = r in
     let l = t.loop-at in
     let row = r.read_row-row.result in
-    subst (λ at. Passed (bytes t.before.before.before.before.before) s.rows at (BothAdded c.plus-initial.result c.plus-committed.result)) (sym (end_is r.before.before.before.before))
-    (advance (l.invariant s e) t.loop-at-test.true (ends r.before.before.before.before)
+    subst (λ at. Passed (bytes t.before.before.before.before.before.before) s.rows at (BothAdded c.plus-initial.result c.plus-committed.result)) (sym (end_is r.before.before.before.before.before))
+    (advance (l.invariant s e) t.loop-at-test.true (ends r.before.before.before.before.before)
     (λ a. let read = r.read_row-row.ensures a.row a.later a.from in (
       rows_next (λ r. r.initial) a.earlier a.row l.initial a.so_far.0 row.initial c.plus-initial.result read.initial c.plus-initial.ensures,
       rows_next (λ r. r.committed) a.earlier a.row l.committed a.so_far.1 row.committed c.plus-committed.result read.committed c.plus-committed.ensures,
@@ -76,4 +87,4 @@ returns c s e =
     c.fit_both.ensures ∙ ap₂ both_fitted all.0.0 all.1.0
 
 pub read_row-row-requires : goal.read_row-row-requires
-read_row-row-requires c = here c
+read_row-row-requires c = here c.before

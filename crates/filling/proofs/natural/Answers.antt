@@ -8,10 +8,15 @@ use mir.Syntax.{w64}
 use mir.Val.{Fits}
 use Rattle.rules.specs.AccountRules.{natural}
 use Rattle.numbers.proofs.Amounts.{held, held-is, natural-is}
+use Rattle.filling.proofs.natural.Lts as place
+use Rattle.filling.proofs.natural.Tie as tie
 use Rattle.filling.proofs.natural.Goals as goal
 
+abbrev After-struct_told-1 : Type 0
+After-struct_told-1 = place.After-struct_told tie.handed_pre tie.handed_post
+
 -- an amount that is not negative is held as the number it is
-is-natural : (c : goal.After-struct_told-1) → let z = c.args.amount.0 in (z ≡ pos (mag z)) × (held z ≡ pos (mag z))
+is-natural : (c : After-struct_told-1) → let z = c.args.amount.0 in (z ≡ pos (mag z)) × (held z ≡ pos (mag z))
 is-natural c =
     let z = c.args.amount.0 in
     let n = natural-is z c.requires in

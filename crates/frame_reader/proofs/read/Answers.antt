@@ -19,7 +19,7 @@ module _ (bs : List ℕ) where
   no_longer short = rw (le-ltb longest_frame (length bs) short)
 
 pub returns-then-bytes-gt-LONGEST_FRAME : goal.returns-then-bytes-gt-LONGEST_FRAME
-returns-then-bytes-gt-LONGEST_FRAME c = (sym (too_long _ c.if-bytes-gt-LONGEST_FRAME.true), tt)
+returns-then-bytes-gt-LONGEST_FRAME c = record { operation = sym (too_long _ c.if-bytes-gt-LONGEST_FRAME.true); parts = tt }
 
 pub returns : goal.returns
-returns c = (c.read_operation.ensures.0 ∙ sym (no_longer _ c.if-bytes-gt-LONGEST_FRAME.false), c.read_operation.ensures.1)
+returns c = record { operation = c.read_operation.ensures.operation ∙ sym (no_longer _ c.if-bytes-gt-LONGEST_FRAME.false); parts = c.read_operation.ensures.parts }

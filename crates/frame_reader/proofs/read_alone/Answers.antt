@@ -19,16 +19,16 @@ misfit bs h e (inr (inl k)) = (alone h certify_ledger (e ∙ k) refl).misfit
 misfit bs h e (inr (inr k)) = (alone h prove_conservation (e ∙ k) refl).misfit
 
 pub returns-then-bytes-ne1 : goal.returns-then-bytes-ne1
-returns-then-bytes-ne1 c = let ((h, e), one) = c.requires in (sym (misfit _ h e one c.if-bytes-ne1.true), tt)
+returns-then-bytes-ne1 c = let ((h, e), one) = c.requires in record { operation = sym (misfit _ h e one c.if-bytes-ne1.true); parts = tt }
 
 pub returns-in-7 : goal.returns-in-7
 unfolding first codes
-returns-in-7 c = let ((h, e), one) = c.requires in (sym ((alone h take_snapshot (e ∙ c.in-7.is) refl).fit c.if-bytes-ne1.false), tt)
+returns-in-7 c = let ((h, e), one) = c.requires in record { operation = sym ((alone h take_snapshot (e ∙ c.in-7.is) refl).fit c.if-bytes-ne1.false); parts = tt }
 
 pub returns-in-11 : goal.returns-in-11
 unfolding first codes
-returns-in-11 c = let ((h, e), one) = c.requires in (sym ((alone h certify_ledger (e ∙ c.in-11.is) refl).fit c.if-bytes-ne1.false), tt)
+returns-in-11 c = let ((h, e), one) = c.requires in record { operation = sym ((alone h certify_ledger (e ∙ c.in-11.is) refl).fit c.if-bytes-ne1.false); parts = tt }
 
 pub returns-in_default : goal.returns-in_default
 unfolding first codes
-returns-in_default c = let ((h, e), one) = c.requires in (sym ((alone h prove_conservation (e ∙ otherwise (otherwise one c.in-7.rest.0.1) c.in-7.rest.1) refl).fit c.if-bytes-ne1.false), tt)
+returns-in_default c = let ((h, e), one) = c.requires in record { operation = sym ((alone h prove_conservation (e ∙ otherwise (otherwise one c.in-7.rest.0.1) c.in-7.rest.1) refl).fit c.if-bytes-ne1.false); parts = tt }

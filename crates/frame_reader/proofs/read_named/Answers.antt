@@ -18,7 +18,15 @@ use Rattle.frame_reader.specs.Operations.{name_start, name_in}
 use Rattle.rules.proofs.Fields.{body_with}
 use Rattle.frame_reader.proofs.Codes.{name_and_amount}
 use Rattle.frame_reader.proofs.Sized.{naming}
+use Rattle.frame_reader.proofs.read_named.Lts as place
+use Rattle.frame_reader.proofs.read_named.Tie as tie
 use Rattle.frame_reader.proofs.read_named.Goals as goal
+
+abbrev After-shared_slice_known-2-1 : Type 0
+After-shared_slice_known-2-1 = place.After-shared_slice_known2 tie.the-claims tie.handed_pre tie.handed_post
+
+abbrev After-read_amount-amount : Type 0
+After-read_amount-amount = place.After-read_amount tie.the-claims tie.handed_pre tie.handed_post
 
 misfit : (bs : List ℕ) (code : ℕ) → 1 ≤ length bs → get_or bs 0 0 ≡ code → 1 ≤ code → code ≤ 4 → (length bs ≡ name_start + get_or bs 1 0 + 8 → ⊥) → operation_of bs ≡ none
 unfolding first codes
@@ -30,18 +38,17 @@ misfit bs (suc (suc (suc (suc zero)))) h e low high = (naming h _ refl reserve e
 misfit bs (suc (suc (suc (suc (suc code))))) h e low high = absurd (omega arith)
 
 pub returns-then-bytes-lt-NAME_START : goal.returns-then-bytes-lt-NAME_START
-returns-then-bytes-lt-NAME_START c = let ((h, e), low, high) = c.requires in (sym (misfit _ c.args.code h e low high (omega arith)), tt)
+returns-then-bytes-lt-NAME_START c = let ((h, e), low, high) = c.requires in record { operation = sym (misfit _ c.args.code h e low high (omega arith)); parts = tt }
 
 -- a byte is below 256
-byte : (c : goal.After-shared_slice_known-2-1) → get_or c.args.bytes.now 1 0 < 256
+byte : (c : After-shared_slice_known-2-1) → get_or c.args.bytes.now 1 0 < 256
 byte c = omega (arith, c.shared_slice_known-2-1.given 1)
 
 pub returns-then-bytes-end : goal.returns-then-bytes-end
 returns-then-bytes-end c =
-    let ((h, e), low, high) = c.requires in
-    (sym (misfit _ c.args.code h e low high (omega arith)), tt)
+    let ((h, e), low, high) = c.requires in record { operation = sym (misfit _ c.args.code h e low high (omega arith)); parts = tt }
 
-module _ (c : goal.After-read_amount-amount) where
+module _ (c : After-read_amount-amount) where
   abbrev bytes : List ℕ
   bytes = c.args.bytes.now
 
@@ -61,25 +68,25 @@ module _ (c : goal.After-read_amount-amount) where
 
 pub returns-in-1 : goal.returns-in-1
 unfolding first codes
-returns-in-1 c = fit c.before 1 c.in-1.is ensure refl
+returns-in-1 c = fit c.before.before 1 c.in-1.is ensure refl
 
 pub returns-in-2 : goal.returns-in-2
 unfolding first codes
-returns-in-2 c = fit c.before 2 c.in-2.is top_up refl
+returns-in-2 c = fit c.before.before 2 c.in-2.is top_up refl
 
 pub returns-in-3 : goal.returns-in-3
 unfolding first codes
-returns-in-3 c = fit c.before 3 c.in-3.is limit refl
+returns-in-3 c = fit c.before.before 3 c.in-3.is limit refl
 
 pub returns-in_default : goal.returns-in_default
 unfolding first codes
-returns-in_default c = fit c.before 4 (omega arith) reserve refl
+returns-in_default c = fit c.before.before 4 (omega arith) reserve refl
 
 pub overflow_cast-end : goal.overflow_cast-end
-overflow_cast-end c = record { fits = omega (arith, byte c) }
+overflow_cast-end c = record { fits = omega (arith, byte c.before) }
 
 pub overflow_add-end : goal.overflow_add-end
-overflow_add-end c = record { fits = omega (arith, byte c) }
+overflow_add-end c = record { fits = omega (arith, byte c.before) }
 
 pub overflow_add-end-2 : goal.overflow_add-end-2
-overflow_add-end-2 c = record { fits = omega (arith, byte c) }
+overflow_add-end-2 c = record { fits = omega (arith, byte c.before) }

@@ -23,7 +23,7 @@ read_snapshot-requires c =
     ((omega arith, refl), one)
 
 pub returns-in_default : goal.returns-in_default
-returns-in_default c = (sym (unknown c.args.bytes.now (omega arith) (λ low. absurd (omega arith))), tt)
+returns-in_default c = record { operation = sym (unknown c.args.bytes.now (omega arith) (λ low. absurd (omega arith))); parts = tt }
 
 pub returns-in_default-2 : goal.returns-in_default-2
 returns-in_default-2 c =
@@ -33,8 +33,7 @@ returns-in_default-2 c =
     let ten : code ≢ 10 = λ e. other.1 (inl e) in
     let eleven : code ≢ 11 = λ e. other.0.0.1 (inr (inl e)) in
     let twelve : code ≢ 12 = λ e. other.1 (inr e) in
-    let thirteen : code ≢ 13 = λ e. other.0.0.1 (inr (inr e)) in
-    (sym (unknown bytes (omega arith) (λ _. omega arith)), tt)
+    let thirteen : code ≢ 13 = λ e. other.0.0.1 (inr (inr e)) in record { operation = sym (unknown bytes (omega arith) (λ _. omega arith)); parts = tt }
 
 pub returns-then-bytes-eq0 : goal.returns-then-bytes-eq0
-returns-then-bytes-eq0 c = (sym (empty _ c.if-bytes-eq0.true), tt)
+returns-then-bytes-eq0 c = record { operation = sym (empty _ c.if-bytes-eq0.true); parts = tt }

@@ -22,23 +22,20 @@ short bs code h e low high l = ⊎_elim
     (equal_or_not code 6)
 
 pub returns-then-bytes-lt-WORD_END : goal.returns-then-bytes-lt-WORD_END
-returns-then-bytes-lt-WORD_END c = let ((h, e), low, high) = c.requires in (sym (short _ c.args.code h e low high c.if-bytes-lt-WORD_END.true), tt)
+returns-then-bytes-lt-WORD_END c = let ((h, e), low, high) = c.requires in record { operation = sym (short _ c.args.code h e low high c.if-bytes-lt-WORD_END.true); parts = tt }
 
 pub returns-then-bytes-ne-WORD_END : goal.returns-then-bytes-ne-WORD_END
-returns-then-bytes-ne-WORD_END c = let ((h, e), low, high) = c.requires in (sym ((releasing h (e ∙ c.if-code-eq6.true)).misfit (omega arith)), tt)
+returns-then-bytes-ne-WORD_END c = let ((h, e), low, high) = c.requires in record { operation = sym ((releasing h (e ∙ c.if-code-eq6.true)).misfit (omega arith)); parts = tt }
 
 pub returns-then-code-eq6 : goal.returns-then-code-eq6
 returns-then-code-eq6 c =
-    let ((h, e), low, high) = c.requires in
-    (ap (λ i. some (on_account (release i))) c.read8.ensures ∙ sym ((releasing h (e ∙ c.if-code-eq6.true)).fit (omega arith)), tt)
+    let ((h, e), low, high) = c.requires in record { operation = ap (λ i. some (on_account (release i))) c.read8.ensures ∙ sym ((releasing h (e ∙ c.if-code-eq6.true)).fit (omega arith)); parts = tt }
 
 pub returns-then-bytes-ne-TWO_WORDS_END : goal.returns-then-bytes-ne-TWO_WORDS_END
 returns-then-bytes-ne-TWO_WORDS_END c =
-    let ((h, e), low, high) = c.requires in
-    (sym ((committing h (omega arith)).misfit (omega arith)), tt)
+    let ((h, e), low, high) = c.requires in record { operation = sym ((committing h (omega arith)).misfit (omega arith)); parts = tt }
 
 pub returns : goal.returns
 returns c =
     let ((h, e), low, high) = c.requires in
-    let id = c.read8 in
-    (ap₂ (λ i z. some (on_account (commit i z))) id.ensures c.read_amount.ensures ∙ sym ((committing h (omega arith)).fit (omega arith)), tt)
+    let id = c.read8 in record { operation = ap₂ (λ i z. some (on_account (commit i z))) id.ensures c.read_amount.ensures ∙ sym ((committing h (omega arith)).fit (omega arith)); parts = tt }

@@ -17,7 +17,15 @@ use Rattle.frame_reader.specs.Operations.{supplied, StandsFrom}
 use Rattle.rules.proofs.Fields.{body_with}
 use Rattle.frame_reader.proofs.Codes.{otherwise, snapshot_for}
 use Rattle.frame_reader.proofs.Supplied.{tested, stands, refused, after-code}
+use Rattle.frame_reader.proofs.read_snapshot.Lts as place
+use Rattle.frame_reader.proofs.read_snapshot.Tie as tie
 use Rattle.frame_reader.proofs.read_snapshot.Goals as goal
+
+abbrev Start : Type 0
+Start = place.Start tie.the-claims tie.handed_pre tie.handed_post
+
+abbrev Else-not-is_snapshot : Type 0
+Else-not-is_snapshot = place.Else1 tie.the-claims tie.handed_pre tie.handed_post
 
 -- no snapshot follows
 misfit : (bs : List ℕ) {code : ℕ} → 1 ≤ length bs → get_or bs 0 0 ≡ code → (code ≡ 8) ⊎ (code ≡ 9) ⊎ (code ≡ 14) → is_read (snapshot_of_bytes (drop 1 bs)) ≡ false → operation_of bs ≡ none
@@ -29,11 +37,10 @@ misfit bs h e (inr (inr k)) f = refused (after-code h judge (e ∙ k) refl) (λ 
 pub returns-then-not-is_snapshot : goal.returns-then-not-is_snapshot
 returns-then-not-is_snapshot c =
     let ((h, e), one) = c.requires in
-    let test = c.is_snapshot in
-    (sym (misfit _ h e one (tested c.args.bytes.now 1 test.ensures ∙ not-true test.result c.if-not-is_snapshot.true-raw)), tt)
+    let test = c.is_snapshot in record { operation = sym (misfit _ h e one (tested c.args.bytes.now 1 test.ensures ∙ not-true test.result c.if-not-is_snapshot.true-raw)); parts = tt }
 
-module _ (c : goal.Else-not-is_snapshot) where
-  abbrev start : goal.Start
+module _ (c : Else-not-is_snapshot) where
+  abbrev start : Start
   start = c.before.before.before.before
 
   abbrev bytes : List ℕ
@@ -50,12 +57,12 @@ module _ (c : goal.Else-not-is_snapshot) where
 
 pub returns-in-8 : goal.returns-in-8
 unfolding first codes
-returns-in-8 c = fit c.before 8 c.in-8.is restore_from refl
+returns-in-8 c = fit c.before.before 8 c.in-8.is restore_from refl
 
 pub returns-in-9 : goal.returns-in-9
 unfolding first codes
-returns-in-9 c = fit c.before 9 c.in-9.is recover_from refl
+returns-in-9 c = fit c.before.before 9 c.in-9.is recover_from refl
 
 pub returns-in_default : goal.returns-in_default
 unfolding first codes
-returns-in_default c = let ((h, e), one) = (start c.before).requires in fit c.before 14 (otherwise (otherwise one c.in-8.rest.0.1) c.in-8.rest.1) judge refl
+returns-in_default c = let ((h, e), one) = (start c.before.before).requires in fit c.before.before 14 (otherwise (otherwise one c.in-8.rest.0.1) c.in-8.rest.1) judge refl

@@ -23,10 +23,18 @@ use Rattle.migration.proofs.MigratedBytes.{migrated-length}
 use Rattle.migration.proofs.Untouched.{is-refused, same_answer, untouched}
 use Rattle.frames.proofs.BehindTheNumber.{part, part-back, part_length, number-before}
 use Rattle.frames.proofs.RoomForSnapshots.{same-migration, hands_out}
+use Rattle.frames.proofs.migrate.Lts as place
+use Rattle.frames.proofs.migrate.Tie as tie
 use Rattle.frames.proofs.migrate.Goals as goal
 
-module _ (c : goal.After-migrate-judged) where
-  abbrev start : goal.Start
+abbrev Start : Type 0
+Start = place.Start tie.the-claims tie.handed_pre tie.handed_post
+
+abbrev After-migrate-judged : Type 0
+After-migrate-judged = place.After-migrate tie.the-claims tie.handed_pre tie.handed_post
+
+module _ (c : After-migrate-judged) where
+  abbrev start : Start
   start = c.before.before.before.before
 
   abbrev bytes : List ℕ
@@ -44,25 +52,25 @@ module _ (c : goal.After-migrate-judged) where
   -- the part has room for the longest snapshot
   answers : (s : Snapshot) → snapshot_of_bytes bytes ≡ some s → migrated_reply (length bytes) after c.migrate-judged.result ≡ migrate longest_snapshot start.args.fence s
   answers s e =
-      c.migrate-judged.ensures.0 s e
+      c.migrate-judged.ensures.answer s e
       ∙ same-migration (omega (arith, part_length output (omega (arith, start.requires.1)), start.requires.1)) start.args.fence s (snapshot-only bytes all_known s e).1.count
 
 pub returns-in_default : goal.returns-in_default
 returns-in_default c s e =
     let j = c.migrate-judged.result in
     let refused = is-refused (spelled j.name) j.verdict c.in-Done.keys2 in
-    matched (sym (same_answer refused _ _ ∙ answers c.before.before.before.before.before.before.before s e))
-    (subst (λ before. WritesReply (judged_reply j) before c.write_judged.new.output c.write_judged.result) (part-back (output c.before.before.before.before.before.before.before) (c.migrate-judged.ensures.1.0 ∙ untouched refused _ _)) c.write_judged.ensures)
+    matched (sym (same_answer refused _ _ ∙ answers c.before.before.before.before.before.before.before.before s e))
+    (subst (λ before. WritesReply (judged_reply j) before c.write_judged.new.output c.write_judged.result) (part-back (output c.before.before.before.before.before.before.before.before) (c.migrate-judged.ensures.output.0 ∙ untouched refused _ _)) c.write_judged.ensures)
 
 pub returns : goal.returns
 unfolding reply_or
 returns c s e =
     let j = c.migrate-judged.result in
     let passes : refusal_in j ≡ none = ap (refusal_of (spelled j.name)) c.in-Done.is in
-    let room : 1 ≤ length (output c.before.before.before.before.before.before.before.before) = omega (arith, (start c.before.before.before.before.before.before.before.before).requires.1) in
-    let handed = take (length (bytes c.before.before.before.before.before.before.before.before)) (after c.before.before.before.before.before.before.before.before) in
+    let room : 1 ≤ length (output c.before.before.before.before.before.before.before.before.before) = omega (arith, (start c.before.before.before.before.before.before.before.before.before).requires.1) in
+    let handed = take (length (bytes c.before.before.before.before.before.before.before.before.before)) (after c.before.before.before.before.before.before.before.before.before) in
     let answer : Option Refusal → Reply = λ o. reply_or o (done (SnapshotBytes handed ∷ [])) in
-    let is_done : done (SnapshotBytes handed ∷ []) ≡ migrate longest_snapshot (start c.before.before.before.before.before.before.before.before).args.fence s = ap answer (sym passes) ∙ answers c.before.before.before.before.before.before.before.before s e in
-    let size : length handed ≡ length (bytes c.before.before.before.before.before.before.before.before) = ap length (hands_out longest_snapshot (start c.before.before.before.before.before.before.before.before).args.fence s handed is_done) ∙ migrated-length (bytes c.before.before.before.before.before.before.before.before) (all_known c.before.before.before.before.before.before.before.before) s e (tagged (start c.before.before.before.before.before.before.before.before).args.fence) in
-    let kept : after c.before.before.before.before.before.before.before.before ≡ handed ++ drop (length handed) (part (output c.before.before.before.before.before.before.before.before)) = c.migrate-judged.ensures.1.0 ∙ ap (λ o. output_after (answer o) (part (output c.before.before.before.before.before.before.before.before))) passes in
-    matched (sym is_done) (number-before (output c.before.before.before.before.before.before.before.before) room handed size kept c.write1.ensures)
+    let is_done : done (SnapshotBytes handed ∷ []) ≡ migrate longest_snapshot (start c.before.before.before.before.before.before.before.before.before).args.fence s = ap answer (sym passes) ∙ answers c.before.before.before.before.before.before.before.before.before s e in
+    let size : length handed ≡ length (bytes c.before.before.before.before.before.before.before.before.before) = ap length (hands_out longest_snapshot (start c.before.before.before.before.before.before.before.before.before).args.fence s handed is_done) ∙ migrated-length (bytes c.before.before.before.before.before.before.before.before.before) (all_known c.before.before.before.before.before.before.before.before.before) s e (tagged (start c.before.before.before.before.before.before.before.before.before).args.fence) in
+    let kept : after c.before.before.before.before.before.before.before.before.before ≡ handed ++ drop (length handed) (part (output c.before.before.before.before.before.before.before.before.before)) = c.migrate-judged.ensures.output.0 ∙ ap (λ o. output_after (answer o) (part (output c.before.before.before.before.before.before.before.before.before))) passes in
+    matched (sym is_done) (number-before (output c.before.before.before.before.before.before.before.before.before) room handed size kept c.write1.ensures)

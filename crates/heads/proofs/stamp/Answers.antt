@@ -11,15 +11,23 @@ use Rattle.records.specs.declared.Head.{Head}
 use Rattle.heads.specs.Heads.{after_draw}
 use Rattle.heads.specs.declared.Stamped.TheVariants.{Next}
 use Rattle.heads.proofs.Draws.{none_left, one_left, head-drawn}
+use Rattle.heads.proofs.stamp.Lts as place
+use Rattle.heads.proofs.stamp.Tie as tie
 use Rattle.heads.proofs.stamp.Goals as goal
+
+abbrev After-after_draw-drawn : Type 0
+After-after_draw-drawn = place.After-after_draw tie.the-claims tie.handed_pre tie.handed_post
+
+abbrev In-Identifier : Type 0
+In-Identifier = place.After-known_told tie.the-claims tie.handed_pre tie.handed_post
 
 pub returns-in_default : goal.returns-in_default
 returns-in_default c =
     let n : ℕ = c.args.head.next_id in
     rw (eq-eqb n M (omega (arith, c.requires, none_left n (sym (ap (λ r. r.drawing) c.after_draw-drawn.ensures) ∙ c.in_default.is))))
 
-module _ (c : goal.In-Identifier) where
-  abbrev drew : goal.After-after_draw-drawn
+module _ (c : In-Identifier) where
+  abbrev drew : After-after_draw-drawn
   drew = c.before.before.before
 
   abbrev head : Head

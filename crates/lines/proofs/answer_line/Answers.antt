@@ -10,10 +10,18 @@ use Rattle.rules.proofs.FrameBytes.{line-as-frame, no-bytes-no-frame}
 use Rattle.digits.specs.declared.Decoded.TheVariants.{Bytes}
 use Rattle.lines.specs.Batching.{LineAnswered}
 use Rattle.lines.proofs.Decoded.{FrontHas, front-has, has-none, too_long}
+use Rattle.lines.proofs.answer_line.Lts as place
+use Rattle.lines.proofs.answer_line.Tie as tie
 use Rattle.lines.proofs.answer_line.Goals as goal
 
-module _ (c : goal.After-bytes_of_line) where
-  abbrev start : goal.Start
+abbrev Start : Type 0
+Start = place.Start tie.the-claims tie.handed_pre tie.handed_post
+
+abbrev After-bytes_of_line : Type 0
+After-bytes_of_line = place.After-bytes_of_line tie.the-claims tie.handed_pre tie.handed_post
+
+module _ (c : After-bytes_of_line) where
+  abbrev start : Start
   start = c.before.before.before.before.before.before.before
 
   abbrev line : List ℕ
@@ -32,20 +40,20 @@ returns-then-line-gt-LONGEST_LINE c l is_lent =
 
 pub returns-in_default : goal.returns-in_default
 returns-in_default c l is_lent =
-    let s = start c.before.before.before.before.before.before.before.before in
-    let no_bytes = has-none s.args.work.now (work c.before.before.before.before.before.before.before.before) (bytes_of_line (line c.before.before.before.before.before.before.before.before)) c.bytes_of_line.ensures c.in_default.is in
-    subst (λ o. LineAnswered o l s.args.room.now s.args.room.now s.args.output.now c.answer_no_frame-in_default.new.output c.answer_no_frame-in_default.result) (sym (no-bytes-no-frame (line c.before.before.before.before.before.before.before.before) no_bytes))
+    let s = start c.before.before.before.before.before.before.before.before.before in
+    let no_bytes = has-none s.args.work.now (work c.before.before.before.before.before.before.before.before.before) (bytes_of_line (line c.before.before.before.before.before.before.before.before.before)) c.bytes_of_line.ensures c.in_default.is in
+    subst (λ o. LineAnswered o l s.args.room.now s.args.room.now s.args.output.now c.answer_no_frame-in_default.new.output c.answer_no_frame-in_default.result) (sym (no-bytes-no-frame (line c.before.before.before.before.before.before.before.before.before) no_bytes))
     (c.answer_no_frame-in_default.ensures s.args.room.now l is_lent)
 
 pub slice_bounds-answer_frame-end : goal.slice_bounds-answer_frame-end
-slice_bounds-answer_frame-end c = (front c.before.before.before.before.before.before c.in-Bytes.is).within
+slice_bounds-answer_frame-end c = (front c.before.before.before.before.before.before.before c.in-Bytes.is).within
 
 pub slice_bounds-answer_frame-end-2 : goal.slice_bounds-answer_frame-end-2
-slice_bounds-answer_frame-end-2 c = sym (length-take-le c.in-Bytes.size (work c.before.before.before.before.before.before) (slice_bounds-answer_frame-end c))
+slice_bounds-answer_frame-end-2 c = sym (length-take-le c.in-Bytes.size (work c.before.before.before.before.before.before.before) (slice_bounds-answer_frame-end c.before))
 
 pub returns : goal.returns
 returns c l is_lent =
-    let s = start c.before.before.before.before.before.before.before.before.before.before.before.before in
+    let s = start c.before.before.before.before.before.before.before.before.before.before.before.before.before in
     subst (λ o. LineAnswered o l s.args.room.now c.answer_frame.new.room s.args.output.now c.answer_frame.new.output c.answer_frame.result)
-    (sym (line-as-frame (line c.before.before.before.before.before.before.before.before.before.before.before.before) _ (front c.before.before.before.before.before.before.before.before.before.before.before.before c.in-Bytes.is).are))
+    (sym (line-as-frame (line c.before.before.before.before.before.before.before.before.before.before.before.before.before) _ (front c.before.before.before.before.before.before.before.before.before.before.before.before.before c.in-Bytes.is).are))
     (c.answer_frame.ensures l is_lent)

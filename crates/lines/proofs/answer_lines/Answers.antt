@@ -18,12 +18,29 @@ use Rattle.lines.specs.declared.Next.TheVariants as next
 use Rattle.lines.proofs.AnswerLines.{some-lent}
 use Rattle.lines.proofs.StaysKnown.{stays-known}
 use Rattle.lines.proofs.Stretch.{Underway, begun, part_from, part_length, rest-is, written-within, turn, stopped, at-the-end}
+use Rattle.lines.proofs.answer_lines.Lts as place
+use Rattle.lines.proofs.answer_lines.Tie as tie
 use Rattle.lines.proofs.answer_lines.Goals as goal
 
-abbrev entry : goal.At-loop-used → goal.Start
+abbrev Start : Type 0
+Start = place.Start tie.the-claims tie.handed_pre tie.handed_post goal.the-invariant-loop-used goal.the-decreases-loop-used
+
+abbrev At-loop-used : Type 0
+At-loop-used = place.At-loop tie.the-claims tie.handed_pre tie.handed_post goal.the-invariant-loop-used goal.the-decreases-loop-used
+
+abbrev After-answer_next : Type 0
+After-answer_next = place.After-answer_next tie.the-claims tie.handed_pre tie.handed_post goal.the-invariant-loop-used goal.the-decreases-loop-used
+
+abbrev In-Answered : Type 0
+In-Answered = place.After-known_told tie.the-claims tie.handed_pre tie.handed_post goal.the-invariant-loop-used goal.the-decreases-loop-used
+
+abbrev In_default : Type 0
+In_default = place.After-enum_told tie.the-claims tie.handed_pre tie.handed_post goal.the-invariant-loop-used goal.the-decreases-loop-used
+
+abbrev entry : At-loop-used → Start
 entry l = l.before.before.before.before.before
 
-passed : (l : goal.At-loop-used) → (l.loop-used.used ≤ length (entry l).args.input.now) × (l.loop-used.written ≤ length (entry l).args.output.now)
+passed : (l : At-loop-used) → (l.loop-used.used ≤ length (entry l).args.input.now) × (l.loop-used.written ≤ length (entry l).args.output.now)
 passed l = (l.loop-used.invariant.0, omega (arith, l.loop-used.invariant.1, l.loop-used.invariant.2))
 
 pub loop-used-init : goal.loop-used-init
@@ -33,8 +50,8 @@ loop-used-init c =
 
 -- ── the next line ──────────────────────────────────────────────────────────────────────────────
 
-module _ (c : goal.After-answer_next) where
-  abbrev turn-of : goal.At-loop-used
+module _ (c : After-answer_next) where
+  abbrev turn-of : At-loop-used
   turn-of = c.before.before.before.before.before.before
 
   abbrev rest : List ℕ
@@ -54,28 +71,25 @@ module _ (c : goal.After-answer_next) where
 
   module _ (r : Next) (is : c.answer_next.result ≡ r) where
     found : NextFound rest r
-    found = subst (λ input. NextFound input r) (rest-is turn-of.loop-used.used (entry turn-of).args.input.now) (subst (NextFound _) is c.answer_next.ensures.0)
+    found = subst (λ input. NextFound input r) (rest-is turn-of.loop-used.used (entry turn-of).args.input.now) (subst (NextFound _) is c.answer_next.ensures.found)
 
     promise : PromisesNext rest turn-of.loop-used.room after part part-after r
     promise l lent =
         subst (λ input. NextAnswered l input turn-of.loop-used.room after part part-after r) (rest-is turn-of.loop-used.used (entry turn-of).args.input.now)
-        (subst (NextAnswered l (part_from turn-of.loop-used.used (entry turn-of).args.input.now) turn-of.loop-used.room after part part-after) is (c.answer_next.ensures.1 l lent))
+        (subst (NextAnswered l (part_from turn-of.loop-used.used (entry turn-of).args.input.now) turn-of.loop-used.room after part part-after) is (c.answer_next.ensures.answered l lent))
 
-abbrev asked : goal.In_default → goal.After-answer_next
+abbrev asked : In_default → After-answer_next
 asked c = c.before.before.before.before.before.before.before.before
 
 pub returns-in_default : goal.returns-in_default
 returns-in_default c =
-    let a = asked c in
-    let o = (turn-of a).loop-used in (
-      λ l is. stopped (after a) (part-after a) (o.inv.6 l is) o.inv.2 (promise a next.Stopped c.in_default.is),
-      passed (turn-of a),
-    )
+    let a = asked c.before in
+    let o = (turn-of a).loop-used in record { batches = λ l is. stopped (after a) (part-after a) (o.inv.6 l is) o.inv.2 (promise a next.Stopped c.in_default.is); within = passed (turn-of a) }
 
 -- ── answered ───────────────────────────────────────────────────────────────────────────────────
 
-module _ (c : goal.In-Answered) where
-  abbrev answer : goal.After-answer_next
+module _ (c : In-Answered) where
+  abbrev answer : After-answer_next
   answer = c.before.before.before.before.before.before.before.before.before
 
   abbrev end : ℕ
@@ -101,44 +115,44 @@ module _ (c : goal.In-Answered) where
 
 pub loop-used-preserved : goal.loop-used-preserved
 loop-used-preserved c =
-    let a = answer c in
+    let a = answer c.before in
     let o = (turn-of a).loop-used in
     let known = (entry (turn-of a)).args.known in
     let left = length o.output - o.written in
     let kept : length (put o.written left o.output (part-after a)) ≡ length o.output =
     put-length o.written left o.output (part-after a) (omega (arith, o.inv.1)) (part-kept a ∙ part_length o.written o.output) in (
-      omega (arith, used-within c),
-      omega (arith, written-fits c, kept),
+      omega (arith, used-within c.before),
+      omega (arith, written-fits c.before, kept),
       kept ∙ o.inv.2,
       c.room-1.given ∙ o.inv.3,
       c.work-1.given ∙ o.inv.4,
-      stays-known known (operation_of_line (take (end c) (rest a))) o.room (after a) (part a) (part-after a) (size c) o.inv.5 (promised c),
-      λ l is. turn (after a) (part-after a) (end c) (size c) (o.inv.6 l is) (first c) (promised c),
+      stays-known known (operation_of_line (take (end c.before) (rest a))) o.room (after a) (part a) (part-after a) (size c.before) o.inv.5 (promised c.before),
+      λ l is. turn (after a) (part-after a) (end c.before) (size c.before) (o.inv.6 l is) (first c.before) (promised c.before),
     )
 
 pub returns : goal.returns
-returns c = (λ l is. at-the-end (c.loop-used.invariant.6 l is) c.loop-used-test.false, passed c.before)
+returns c = record { batches = λ l is. at-the-end (c.loop-used.invariant.6 l is) c.loop-used-test.false; within = passed c.before.before }
 
 pub shape_of-room-in_default : goal.shape_of-room-in_default
-shape_of-room-in_default c = c.room-1.given ∙ (turn-of (asked c)).loop-used.invariant.3
+shape_of-room-in_default c = c.room-1.given ∙ (turn-of (asked c.before)).loop-used.invariant.3
 
 pub shape_of-work-in_default : goal.shape_of-work-in_default
-shape_of-work-in_default c = c.work-1.given ∙ (turn-of (asked c)).loop-used.invariant.4
+shape_of-work-in_default c = c.work-1.given ∙ (turn-of (asked c.before)).loop-used.invariant.4
 
 pub shape_of-output-in_default : goal.shape_of-output-in_default
-shape_of-output-in_default c = c.output-1.given.1 ∙ (turn-of (asked c)).loop-used.invariant.2
+shape_of-output-in_default c = c.output-1.given.1 ∙ (turn-of (asked c.before)).loop-used.invariant.2
 
 pub overflow_add-used : goal.overflow_add-used
-overflow_add-used c = omega (arith, used-within c)
+overflow_add-used c = omega (arith, used-within c.before)
 
 pub overflow_add-used-in-loop-used : goal.overflow_add-used-in-loop-used
-overflow_add-used-in-loop-used c = omega (arith, used-within c)
+overflow_add-used-in-loop-used c = omega (arith, used-within c.before)
 
 pub overflow_add-written : goal.overflow_add-written
-overflow_add-written c = omega (arith, written-fits c)
+overflow_add-written c = omega (arith, written-fits c.before)
 
 pub loop-used-smaller : goal.loop-used-smaller
-loop-used-smaller c = omega (arith, used-within c)
+loop-used-smaller c = omega (arith, used-within c.before)
 
 pub shape_of-room : goal.shape_of-room
 shape_of-room c = c.loop-used.invariant.3

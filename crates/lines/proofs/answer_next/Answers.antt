@@ -14,10 +14,27 @@ use Rattle.digits.specs.Decoding.{FrontDecoded}
 use Rattle.lines.specs.Batching.{FirstFeed, FirstLine}
 use Rattle.lines.specs.declared.LineEnd.TheVariants as found
 use Rattle.lines.proofs.FirstLine.{first-line, no_line, front-line, is-frame, no_frame, told}
+use Rattle.lines.proofs.answer_next.Lts as place
+use Rattle.lines.proofs.answer_next.Tie as tie
 use Rattle.lines.proofs.answer_next.Goals as goal
 
-module _ (c : goal.After-front_limit-limit) where
-  abbrev start : goal.Start
+abbrev Start : Type 0
+Start = place.Start tie.the-claims tie.handed_pre tie.handed_post
+
+abbrev After-front_limit-limit : Type 0
+After-front_limit-limit = place.After-front_limit tie.the-claims tie.handed_pre tie.handed_post
+
+abbrev After-front_bytes-size : Type 0
+After-front_bytes-size = place.After-front_bytes tie.the-claims tie.handed_pre tie.handed_post
+
+abbrev After-line_end : Type 0
+After-line_end = place.After-line_end tie.the-claims tie.handed_pre tie.handed_post
+
+abbrev In-At : Type 0
+In-At = place.After-known_told tie.the-claims tie.handed_pre tie.handed_post
+
+module _ (c : After-front_limit-limit) where
+  abbrev start : Start
   start = c.before.before.before.before.before
 
   abbrev input : List ℕ
@@ -29,8 +46,8 @@ module _ (c : goal.After-front_limit-limit) where
   limit-length : length (take limit input) ≡ limit
   limit-length = length-take-le limit input c.front_limit-limit.ensures.0
 
-module _ (c : goal.After-front_bytes-size) where
-  abbrev shortened : goal.After-front_limit-limit
+module _ (c : After-front_bytes-size) where
+  abbrev shortened : After-front_limit-limit
   shortened = c.before.before
 
   abbrev size : ℕ
@@ -42,11 +59,11 @@ module _ (c : goal.After-front_bytes-size) where
   front : FrontDecoded (take (limit shortened) (input shortened)) (start shortened).args.work.now bytes size
   front = c.front_bytes-size.ensures
 
-module _ (c : goal.In-At) where
-  abbrev looked : goal.After-line_end
+module _ (c : In-At) where
+  abbrev looked : After-line_end
   looked = c.before.before.before
 
-  abbrev read : goal.After-front_bytes-size
+  abbrev read : After-front_bytes-size
   read = looked.before.before.before
 
   abbrev end : ℕ
@@ -59,38 +76,37 @@ module _ (c : goal.In-At) where
   first = first-line (input (shortened read)) (size read + size read) (front-line (input (shortened read)) (limit (shortened read)) (shortened read).front_limit-limit.ensures.0 (front read)) end found_at
 
 pub slice_bounds-front_bytes-end : goal.slice_bounds-front_bytes-end
-slice_bounds-front_bytes-end c = sym (limit-length c)
+slice_bounds-front_bytes-end c = sym (limit-length c.before)
 
 pub front_bytes-size-requires : goal.front_bytes-size-requires
-front_bytes-size-requires c = omega (arith, limit-length c.before, c.front_limit-limit.ensures.1, (start c.before).requires.1)
+front_bytes-size-requires c = omega (arith, limit-length c.before.before, c.front_limit-limit.ensures.1, (start c.before.before).requires.1)
 
 pub line_end-requires : goal.line_end-requires
-line_end-requires c = let s = shortened c.before.before in omega (arith, (front c.before.before).within, limit-length s, s.front_limit-limit.ensures.0)
+line_end-requires c = let s = shortened c.before.before.before in omega (arith, (front c.before.before.before).within, limit-length s, s.front_limit-limit.ensures.0)
 
 pub returns-in_default : goal.returns-in_default
 returns-in_default c =
-    let s = shortened c.before.before.before.before.before in
-    let is_line = subst (FirstFeed (input s) (size c.before.before.before.before.before + size c.before.before.before.before.before)) c.in_default.is c.line_end.ensures in
-    (tt, λ _ _. (refl, refl, inl (no_line (input s) (size c.before.before.before.before.before + size c.before.before.before.before.before) (front-line (input s) (limit s) s.front_limit-limit.ensures.0 (front c.before.before.before.before.before)) is_line)))
+    let s = shortened c.before.before.before.before.before.before in
+    let is_line = subst (FirstFeed (input s) (size c.before.before.before.before.before.before + size c.before.before.before.before.before.before)) c.in_default.is c.line_end.ensures in record { found = tt; answered = λ _ _. (refl, refl, inl (no_line (input s) (size c.before.before.before.before.before.before + size c.before.before.before.before.before.before) (front-line (input s) (limit s) s.front_limit-limit.ensures.0 (front c.before.before.before.before.before.before)) is_line)) }
 
 pub returns-then-from-end : goal.returns-then-from-end
 returns-then-from-end c =
-    let r = read c.before.before.before.before.before.before in
+    let r = read c.before.before.before.before.before.before.before in
     let s = shortened r in
     let g = (start s).args in
-    told (input s) g.room.now g.room.now g.output.now c.answer_no_frame.new.output (end c.before.before.before.before.before.before) (first c.before.before.before.before.before.before) none c.answer_no_frame.result c.next_at.ensures
-    (no_frame (input s) (limit s) s.front_limit-limit.ensures.0 (front r) s.front_limit-limit.ensures.2 (end c.before.before.before.before.before.before) c.if-from-end.true (omega (arith, (first c.before.before.before.before.before.before).inside)))
+    told (input s) g.room.now g.room.now g.output.now c.answer_no_frame.new.output (end c.before.before.before.before.before.before.before) (first c.before.before.before.before.before.before.before) none c.answer_no_frame.result c.next_at.ensures
+    (no_frame (input s) (limit s) s.front_limit-limit.ensures.0 (front r) s.front_limit-limit.ensures.2 (end c.before.before.before.before.before.before.before) c.if-from-end.true (omega (arith, (first c.before.before.before.before.before.before.before).inside)))
     (c.answer_no_frame.ensures g.room.now)
 
 pub slice_bounds-answer_frame-end-2 : goal.slice_bounds-answer_frame-end-2
-slice_bounds-answer_frame-end-2 c = let r = read c.before.before in sym (length-take-le (size r) (bytes r) (front r).fits)
+slice_bounds-answer_frame-end-2 c = let r = read c.before.before.before in sym (length-take-le (size r) (bytes r) (front r).fits)
 
 pub returns : goal.returns
 returns c =
-    let r = read c.before.before.before.before.before.before.before.before.before in
+    let r = read c.before.before.before.before.before.before.before.before.before.before in
     let s = shortened r in
     let g = (start s).args in
-    let here : end c.before.before.before.before.before.before.before.before.before ≡ size r + size r = omega (arith, (found_at c.before.before.before.before.before.before.before.before.before).0, c.if-from-end.false) in
-    told (input s) g.room.now c.answer_frame.new.room g.output.now c.answer_frame.new.output (end c.before.before.before.before.before.before.before.before.before) (first c.before.before.before.before.before.before.before.before.before) (operation_of_frame (take (size r) (bytes r))) c.answer_frame.result c.next_at-2.ensures
+    let here : end c.before.before.before.before.before.before.before.before.before.before ≡ size r + size r = omega (arith, (found_at c.before.before.before.before.before.before.before.before.before.before).0, c.if-from-end.false) in
+    told (input s) g.room.now c.answer_frame.new.room g.output.now c.answer_frame.new.output (end c.before.before.before.before.before.before.before.before.before.before) (first c.before.before.before.before.before.before.before.before.before.before) (operation_of_frame (take (size r) (bytes r))) c.answer_frame.result c.next_at-2.ensures
     (ap (λ n. operation_of_line (take n (input s))) here ∙ is-frame (input s) (limit s) s.front_limit-limit.ensures.0 (front r))
     c.answer_frame.ensures

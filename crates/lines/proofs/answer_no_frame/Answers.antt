@@ -22,4 +22,4 @@ finish-requires c = omega (arith, one_byte 23, c.write_number-size.ensures.size,
 pub returns : goal.returns
 returns c room l is_lent =
     let written = c.write_number-size in
-    (search rules, line-written c.finish.ensures.0 c.finish.ensures.1 record { writes = written.ensures; lent = is_lent; untouched = λ _. refl })
+    (search rules, line-written c.finish.ensures.end c.finish.ensures.line record { writes = written.ensures; lent = is_lent; untouched = λ _. refl })

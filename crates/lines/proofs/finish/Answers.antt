@@ -5,4 +5,4 @@ use Rattle.lines.proofs.AnswerLines.{fed}
 use Rattle.lines.proofs.finish.Goals as goal
 
 pub returns : goal.returns
-returns c = (refl, fed c.args.output.now c.args.size c.requires c.spell.ensures)
+returns c = record { end = refl; line = fed c.args.output.now c.args.size c.requires c.spell.ensures }

@@ -8,19 +8,24 @@ use Rattle.rules.specs.RoomAndSoundLedger.{longest_name}
 use Rattle.records.specs.Layout.{name_start}
 use Rattle.records.proofs.Rows.{span}
 use Rattle.room.proofs.InRoom.{name-length, name-spelled}
+use Rattle.lookup.proofs.name_at.Lts as place
+use Rattle.lookup.proofs.name_at.Tie as tie
 use Rattle.lookup.proofs.name_at.Goals as goal
 
-short : (c : goal.Start) → get_or c.args.room.now (name_start c.args.i) 0 ≤ longest_name
+abbrev Start : Type 0
+Start = place.Start tie.handed_pre tie.handed_post
+
+short : (c : Start) → get_or c.args.room.now (name_start c.args.i) 0 ≤ longest_name
 short c = omega (arith, name-length c.args.i c.args.room.now c.requires.0)
 
 pub returns : goal.returns
 returns c = rw span (sym (name-spelled c.args.i c.args.room.now c.requires.0 c.requires.1))
 
 pub overflow_cast-end : goal.overflow_cast-end
-overflow_cast-end c = omega (arith, short c.before)
+overflow_cast-end c = omega (arith, short c.before.before)
 
 pub overflow_add-end : goal.overflow_add-end
-overflow_add-end c = omega (arith, short c.before)
+overflow_add-end c = omega (arith, short c.before.before)
 
 pub slice_bounds-result-end : goal.slice_bounds-result-end
-slice_bounds-result-end c = omega (arith, short c.before)
+slice_bounds-result-end c = omega (arith, short c.before.before)

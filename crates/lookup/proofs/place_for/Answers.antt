@@ -17,7 +17,15 @@ use Rattle.records.specs.Records.{sizes_of}
 use Rattle.room.specs.Contents.{contents_of, used_places}
 use Rattle.room.proofs.InRoom.{used-places, loaded-name, name-in-room}
 use Rattle.lookup.proofs.Places.{no_place, eq_not_lt, gt-not-lt, goes-only}
+use Rattle.lookup.proofs.place_for.Lts as place
+use Rattle.lookup.proofs.place_for.Tie as tie
 use Rattle.lookup.proofs.place_for.Goals as goal
+
+abbrev After-load_sizes-sizes : Type 0
+After-load_sizes-sizes = place.After-load_sizes tie.the-claims tie.handed_pre tie.handed_post goal.the-invariant-loop-i goal.the-decreases-loop-i
+
+abbrev After-compare : Type 0
+After-compare = place.After-compare tie.the-claims tie.handed_pre tie.handed_post goal.the-invariant-loop-i goal.the-decreases-loop-i
 
 -- an answer by another tag than `Before`'s
 other_tag : (o : Order) → (tag_of (declared enum) o ≡ 1) ⊎ (tag_of (declared enum) o ≡ 2) → ordering_of o ≢ Ordering.lt
@@ -26,10 +34,10 @@ other_tag Before (inr h) = absurd (omega arith)
 other_tag Same h = eq_not_lt
 other_tag After h = gt-not-lt
 
-in_use : (c : goal.After-load_sizes-sizes) → c.load_sizes-sizes.result.used ≡ (sizes_of c.args.room.now).used
+in_use : (c : After-load_sizes-sizes) → c.load_sizes-sizes.result.used ≡ (sizes_of c.args.room.now).used
 in_use c = ap (λ s. s.used) c.load_sizes-sizes.ensures
 
-compared : (c : goal.After-compare) →
+compared : (c : After-compare) →
     ordering_of c.compare.result ≡ order (spelled (get_or (used_places (contents_of c.args.room.now)) c.loop-i.i no_place).name) c.args.part.now
 compared c =
     let kept = c.name_at.ensures ∙ loaded-name c.args.room.now c.requires.sized c.loop-i.i no_place (omega (arith, in_use c.before.before.before.before)) in
@@ -40,26 +48,26 @@ load_sizes-sizes-requires c = omega (arith, c.requires.sized.size)
 
 pub name_at-requires : goal.name_at-requires
 name_at-requires c =
-    name-in-room c.args.room.now c.requires.sized c.loop-i.i c.requires.names_stored (omega (arith, in_use c.before.before))
+    name-in-room c.args.room.now c.requires.sized c.loop-i.i c.requires.names_stored (omega (arith, in_use c.before.before.before))
 
 pub returns-in_default : goal.returns-in_default
 returns-in_default c =
     let ps = used_places (contents_of c.args.room.now) in
     goes-only c.args.part.now no_place ps c.loop-i.i
     (record {
-      within = omega (arith, in_use c.before.before.before.before.before, used-places c.args.room.now c.requires.sized);
+      within = omega (arith, in_use c.before.before.before.before.before.before, used-places c.args.room.now c.requires.sized);
       behind = c.loop-i.invariant.1;
-      stops = λ h e. other_tag c.compare.result c.in-Before.keys2 (compared c.before ∙ e);
+      stops = λ h e. other_tag c.compare.result c.in-Before.keys2 (compared c.before.before ∙ e);
     })
 
 pub loop-i-preserved : goal.loop-i-preserved
 loop-i-preserved c =
-    (omega arith, below_more _ c.loop-i.i c.loop-i.invariant.1 (sym (compared c.before.before) ∙ ap ordering_of c.in-Before.is))
+    (omega arith, below_more _ c.loop-i.i c.loop-i.invariant.1 (sym (compared c.before.before.before) ∙ ap ordering_of c.in-Before.is))
 
 pub returns : goal.returns
 returns c =
     let ps = used_places (contents_of c.args.room.now) in
-    let n : length ps ≡ c.load_sizes-sizes.result.used = used-places c.args.room.now c.requires.sized ∙ sym (in_use c.before.before) in
+    let n : length ps ≡ c.load_sizes-sizes.result.used = used-places c.args.room.now c.requires.sized ∙ sym (in_use c.before.before.before) in
     goes-only c.args.part.now no_place ps c.loop-i.i
     (record { within = omega arith; behind = c.loop-i.invariant.1; stops = λ h e. omega arith })
 

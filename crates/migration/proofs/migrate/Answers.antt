@@ -17,9 +17,23 @@ use Rattle.snapshot_reader.proofs.Header.{is-long}
 use Rattle.validation.specs.Judgement.{refusal_of, refusal_in}
 use Rattle.migration.proofs.MigratedBytes.{migrated-bytes, migrated-length, handed_out, kept-behind}
 use Rattle.migration.proofs.Untouched.{is-refused, same_answer, untouched}
+use Rattle.migration.proofs.migrate.Lts as place
+use Rattle.migration.proofs.migrate.Tie as tie
 use Rattle.migration.proofs.migrate.Goals as goal
 
-abbrev start : goal.After-refusal-judged → goal.Start
+abbrev Start : Type 0
+Start = place.Start tie.the-claims tie.handed_pre tie.handed_post
+
+abbrev After-refusal-judged : Type 0
+After-refusal-judged = place.After-refusal tie.the-claims tie.handed_pre tie.handed_post
+
+abbrev In-Done : Type 0
+In-Done = place.After-enum_told tie.the-claims tie.handed_pre tie.handed_post
+
+abbrev After-write_migrated : Type 0
+After-write_migrated = place.After-write_migrated tie.the-claims tie.handed_pre tie.handed_post
+
+abbrev start : After-refusal-judged → Start
 start c = c.before.before.before
 
 pub returns-in_default : goal.returns-in_default
@@ -31,14 +45,14 @@ returns-in_default c =
 
 -- ── nothing is refused ─────────────────────────────────────────────────────────────────────────
 
-passes : (c : goal.In-Done) → refusal_in c.refusal-judged.result ≡ none
+passes : (c : In-Done) → refusal_in c.refusal-judged.result ≡ none
 passes c = ap (refusal_of (spelled c.refusal-judged.result.name)) c.in-Done.is
 
-room : (c : goal.In-Done) → let a = (start c.before.before).args in (a.fence ≤ M) × (length a.bytes.now ≤ length a.output.now)
-room c = c.refusal-judged.ensures.1.0 (passes c)
+room : (c : In-Done) → let a = (start c.before.before).args in (a.fence ≤ M) × (length a.bytes.now ≤ length a.output.now)
+room c = c.refusal-judged.ensures.room.0 (passes c)
 
-module _ (c : goal.After-write_migrated) where
-  abbrev told : goal.In-Done
+module _ (c : After-write_migrated) where
+  abbrev told : In-Done
   told = c.before.before.before
 
   abbrev bytes : List ℕ
@@ -78,14 +92,14 @@ module _ (c : goal.After-write_migrated) where
 pub returns : goal.returns
 unfolding reply_or
 returns c =
-    let judged = (told c.before.before).refusal-judged in
-    let pre = (start (told c.before.before).before.before).requires in
+    let judged = (told c.before.before.before).refusal-judged in
+    let pre = (start (told c.before.before.before).before.before).requires in
     let answer : Option Refusal → List ℕ → Reply = λ o handed. reply_or o (done (SnapshotBytes handed ∷ [])) in
-    let kept-output = kept c.before.before pre.snapshot pre.is_read ∙ ap (λ o. output_after (answer o (take (length (bytes c.before.before)) (after c.before.before))) (output c.before.before)) (sym (passes (told c.before.before))) in
-    (λ s e. ap (answer (refusal_in judged.result)) (front c.before.before s e) ∙ judged.ensures.0 s e, (kept-output, judged.ensures.1.1))
+    let kept-output = kept c.before.before.before pre.snapshot pre.is_read ∙ ap (λ o. output_after (answer o (take (length (bytes c.before.before.before)) (after c.before.before.before))) (output c.before.before.before)) (sym (passes (told c.before.before.before))) in
+    (λ s e. ap (answer (refusal_in judged.result)) (front c.before.before.before s e) ∙ judged.ensures.0 s e, (kept-output, judged.ensures.1.1))
 
 pub tagged-version-requires : goal.tagged-version-requires
-tagged-version-requires c = (room c).0
+tagged-version-requires c = (room c.before).0
 
 pub write_migrated-requires : goal.write_migrated-requires
-write_migrated-requires c = (omega (arith, is-long _ (start c.before.before.before.before).requires), (room c.before.before).1)
+write_migrated-requires c = (omega (arith, is-long _ (start c.before.before.before.before.before).requires), (room c.before.before.before).1)

@@ -24,11 +24,40 @@ use Rattle.validation.proofs.StoredForm.{nameless-form}
 use Rattle.migration.proofs.MigratedBytes.{migrated-length}
 use Rattle.migration.proofs.Refusing.{Decided, Passed, room_for, long-name, aware, no-fence, high-fence, validated}
 use Rattle.migration.proofs.Untouched.{Refused, is-refused}
+use Rattle.migration.proofs.refusal.Lts as place
+use Rattle.migration.proofs.refusal.Tie as tie
 use Rattle.migration.proofs.refusal.Goals as goal
+
+abbrev Start : Type 0
+Start = place.Start tie.the-claims tie.handed_pre tie.handed_post
+
+abbrev After-shared_slice_known-1 : Type 0
+After-shared_slice_known-1 = place.After-shared_slice_known tie.the-claims tie.handed_pre tie.handed_post
+
+abbrev Else-has_long_name : Type 0
+Else-has_long_name = place.Else1 tie.the-claims tie.handed_pre tie.handed_post
+
+abbrev After-has_tag : Type 0
+After-has_tag = place.After-has_tag tie.the-claims tie.handed_pre tie.handed_post
+
+abbrev Else-has_tag : Type 0
+Else-has_tag = place.Else2 tie.the-claims tie.handed_pre tie.handed_post
+
+abbrev Else-fence-gt-M : Type 0
+Else-fence-gt-M = place.Else4 tie.the-claims tie.handed_pre tie.handed_post
+
+abbrev In-Done : Type 0
+In-Done = place.After-enum_told tie.the-claims tie.handed_pre tie.handed_post
+
+abbrev In_default : Type 0
+In_default = place.At-match-keys2 tie.the-claims tie.handed_pre tie.handed_post
+
+abbrev After-nameless-2 : Type 0
+After-nameless-2 = place.After-nameless6 tie.the-claims tie.handed_pre tie.handed_post
 
 -- ── an answer of no row ────────────────────────────────────────────────────────────────────────
 
-module _ (c : goal.Start) where
+module _ (c : Start) where
   abbrev Read : Snapshot → Type 0
   Read s = snapshot_of_bytes c.args.bytes.now ≡ some s
 
@@ -41,7 +70,7 @@ module _ (c : goal.Start) where
   abbrev Ensured : Judged → Type 0
   Ensured r = ((s : Snapshot) → Read s → Answers s (refusal_in r)) × ((refusal_in r ≡ none → Room) × InStoredForm r)
 
-module _ (c : goal.Start) (r : Judged) where
+module _ (c : Start) (r : Judged) where
   decided : (v : Verdict) → r ≡ nameless v → ((s : Snapshot) → Read c s → Answers c s (refusal_of [] v)) → (refusal_of [] v ≡ none → Room c) → Ensured c r
   decided v e answers room = subst (Ensured c) (sym e) (answers, (room, nameless-form refl))
 
@@ -52,68 +81,68 @@ module _ (c : goal.Start) (r : Judged) where
 
 pub returns-then-has_long_name : goal.returns-then-has_long_name
 returns-then-has_long_name c =
-    refused c.before.before.before.before _ verdict.NameTooLong _ c.nameless.ensures refl
+    refused c.before.before.before.before.before _ verdict.NameTooLong _ c.nameless.ensures refl
     (λ s e. long-name _ _ s (sym (c.has_long_name.ensures s e) ∙ c.if-has_long_name.true))
 
-names-short : (c : goal.Else-has_long_name) (s : Snapshot) → Read c.before.before.before s → has_long_name s.rows ≡ false
+names-short : (c : Else-has_long_name) (s : Snapshot) → Read c.before.before.before s → has_long_name s.rows ≡ false
 names-short c s e = sym (c.has_long_name.ensures s e) ∙ c.if-has_long_name.false
 
-tag-asked : (c : goal.After-has_tag) (s : Snapshot) → Read c.before.before.before.before.before s → has_tag s.version ≡ c.has_tag.result
+tag-asked : (c : After-has_tag) (s : Snapshot) → Read c.before.before.before.before.before s → has_tag s.version ≡ c.has_tag.result
 tag-asked c s e = ap has_tag (sym (c.version.ensures s e)) ∙ sym c.has_tag.ensures
 
 pub returns-then-has_tag : goal.returns-then-has_tag
 returns-then-has_tag c =
-    refused c.before.before.before.before.before.before.before _ verdict.AlreadyRecoveryAware _ c.nameless-then-has_tag.ensures refl
-    (λ s e. aware _ _ s (names-short c.before.before.before.before s e) (tag-asked c.before.before s e ∙ c.if-has_tag.true))
+    refused c.before.before.before.before.before.before.before.before _ verdict.AlreadyRecoveryAware _ c.nameless-then-has_tag.ensures refl
+    (λ s e. aware _ _ s (names-short c.before.before.before.before.before s e) (tag-asked c.before.before.before s e ∙ c.if-has_tag.true))
 
-untagged : (c : goal.Else-has_tag) (s : Snapshot) → Read c.before.before.before.before.before.before s → has_tag s.version ≡ false
+untagged : (c : Else-has_tag) (s : Snapshot) → Read c.before.before.before.before.before.before s → has_tag s.version ≡ false
 untagged c s e = tag-asked c.before s e ∙ c.if-has_tag.false
 
 pub returns-then-fence-eq0 : goal.returns-then-fence-eq0
 returns-then-fence-eq0 c =
-    refused c.before.before.before.before.before.before.before.before _ (verdict.InvalidAllocatorFence _) _ c.nameless-then-fence-eq0.ensures refl
-    (λ s e. no-fence _ _ s (names-short c.before.before.before.before.before s e) (untagged c.before.before s e) c.if-fence-eq0.true)
+    refused c.before.before.before.before.before.before.before.before.before _ (verdict.InvalidAllocatorFence _) _ c.nameless-then-fence-eq0.ensures refl
+    (λ s e. no-fence _ _ s (names-short c.before.before.before.before.before.before s e) (untagged c.before.before.before s e) c.if-fence-eq0.true)
 
 pub returns-then-fence-gt-M : goal.returns-then-fence-gt-M
 unfolding M
 returns-then-fence-gt-M c =
-    refused c.before.before.before.before.before.before.before.before.before _ (verdict.InvalidAllocatorFence _) _ c.nameless-then-fence-gt-M.ensures refl
-    (λ s e. high-fence _ _ s (names-short c.before.before.before.before.before.before s e) (untagged c.before.before.before s e) c.if-fence-eq0.false (omega (arith, c.if-fence-gt-M.true)))
+    refused c.before.before.before.before.before.before.before.before.before.before _ (verdict.InvalidAllocatorFence _) _ c.nameless-then-fence-gt-M.ensures refl
+    (λ s e. high-fence _ _ s (names-short c.before.before.before.before.before.before.before s e) (untagged c.before.before.before.before s e) c.if-fence-eq0.false (omega (arith, c.if-fence-gt-M.true)))
 
 -- ── they pass ──────────────────────────────────────────────────────────────────────────────────
 
-abbrev entry : goal.Else-fence-gt-M → goal.After-shared_slice_known-1
+abbrev entry : Else-fence-gt-M → After-shared_slice_known-1
 entry c = c.before.before.before.before.before.before.before
 
-abbrev start : goal.Else-fence-gt-M → goal.Start
+abbrev start : Else-fence-gt-M → Start
 start c = (entry c).before
 
-low : (c : goal.Else-fence-gt-M) → (start c).args.fence ≤ M
+low : (c : Else-fence-gt-M) → (start c).args.fence ≤ M
 unfolding M
 low c = omega (arith, c.if-fence-gt-M.false)
 
-passed : (c : goal.Else-fence-gt-M) (s : Snapshot) → Read (start c) s → Passed (start c).args.fence s
+passed : (c : Else-fence-gt-M) (s : Snapshot) → Read (start c) s → Passed (start c).args.fence s
 passed c s e =
     record { short = names-short c.before.before.before.before.before s e; untagged = untagged c.before.before s e; given = c.if-fence-eq0.false; low = low c }
 
 pub validation-judged-requires : goal.validation-judged-requires
 validation-judged-requires c =
-    let pre = (start c).requires in
-    record { snapshot = pre.snapshot; is_read = pre.is_read; short = (passed c pre.snapshot pre.is_read).short }
+    let pre = (start c.before).requires in
+    record { snapshot = pre.snapshot; is_read = pre.is_read; short = (passed c.before pre.snapshot pre.is_read).short }
 
-not_done : (c : goal.In_default) → Refused (refusal_in c.validation-judged.result)
+not_done : (c : In_default) → Refused (refusal_in c.validation-judged.result)
 not_done c = let j = c.validation-judged.result in is-refused (spelled j.name) j.verdict c.in-Done.keys2
 
 pub returns-in_default : goal.returns-in_default
 returns-in_default c =
     let judged = c.validation-judged in
     let j = judged.result in
-    let answers : (s : Snapshot) → Read (start c.before.before) s → Answers (start c.before.before) s (refusal_in j) =
-    λ s e. validated _ _ s (passed c.before.before s e) _ (judged.ensures.0 s e) _ (refuses (spelled j.name) j.verdict _ c.in-Done.keys2) in
-    (answers, (λ passes. none-some (sym passes ∙ (not_done c).is), judged.ensures.1))
+    let answers : (s : Snapshot) → Read (start c.before.before.before) s → Answers (start c.before.before.before) s (refusal_in j) =
+    λ s e. validated _ _ s (passed c.before.before.before s e) _ (judged.ensures.0 s e) _ (refuses (spelled j.name) j.verdict _ c.in-Done.keys2) in
+    (answers, (λ passes. none-some (sym passes ∙ (not_done c.before).is), judged.ensures.1))
 
 -- the validation passes too: the room decides, and it is asked of the bytes supplied
-module _ (c : goal.In-Done) (s : Snapshot) (e : Read (start c.before.before.before) s) where
+module _ (c : In-Done) (s : Snapshot) (e : Read (start c.before.before.before) s) where
   abbrev size : ℕ
   size = (start c.before.before.before).args.size
 
@@ -140,11 +169,11 @@ module _ (c : goal.In-Done) (s : Snapshot) (e : Read (start c.before.before.befo
 
 pub returns-then-size-bytes : goal.returns-then-size-bytes
 returns-then-size-bytes c =
-    refused (start c.before.before.before.before.before) _ verdict.OutputTooShort _ c.nameless-then-size-bytes.ensures refl (λ s e. short-room c.before.before s e (omega (arith, c.if-size-bytes.true)))
+    refused (start c.before.before.before.before.before.before) _ verdict.OutputTooShort _ c.nameless-then-size-bytes.ensures refl (λ s e. short-room c.before.before.before s e (omega (arith, c.if-size-bytes.true)))
 
-fits : (c : goal.After-nameless-2) → let s = start c.before.before.before.before.before in length s.args.bytes.now ≤ s.args.size
+fits : (c : After-nameless-2) → let s = start c.before.before.before.before.before in length s.args.bytes.now ≤ s.args.size
 fits c = omega (arith, c.if-size-bytes.false)
 
 pub returns : goal.returns
 returns c =
-    decided (start c.before.before.before.before.before) _ verdict.Done c.nameless-2.ensures (λ s e. room c.before.before s e (fits c)) (λ passes. (low c.before.before.before.before.before, fits c))
+    decided (start c.before.before.before.before.before.before) _ verdict.Done c.nameless-2.ensures (λ s e. room c.before.before.before s e (fits c.before)) (λ passes. (low c.before.before.before.before.before.before, fits c.before))

@@ -4,9 +4,14 @@ use native.Mathlib.Omega.{arith}
 use lib.IntN.{pos}
 use Rattle.rules.specs.RoomAndSoundLedger.{M}
 use Rattle.numbers.proofs.Amounts.{held-is}
+use Rattle.numbers.proofs.amount.Lts as place
+use Rattle.numbers.proofs.amount.Tie as tie
 use Rattle.numbers.proofs.amount.Goals as goal
 
-below : (c : goal.Start) → c.args.x < 2 ^ 63
+abbrev Start : Type 0
+Start = place.Start tie.handed_pre tie.handed_post
+
+below : (c : Start) → c.args.x < 2 ^ 63
 unfolding M
 below c = omega arith
 

@@ -5,17 +5,22 @@ use lib.IntN.{pos, ◌-ℤ◌}
 use lib.Signed.{mag}
 use Rattle.rules.specs.RoomAndSoundLedger.{M}
 use Rattle.numbers.proofs.Amounts.{held-is, difference-fits}
+use Rattle.numbers.proofs.delta.Lts as place
+use Rattle.numbers.proofs.delta.Tie as tie
 use Rattle.numbers.proofs.delta.Goals as goal
 
-actual-below : (c : goal.Start) → c.args.actual < 2 ^ 63
+abbrev Start : Type 0
+Start = place.Start tie.handed_pre tie.handed_post
+
+actual-below : (c : Start) → c.args.actual < 2 ^ 63
 unfolding M
 actual-below c = omega arith
 
-reserved-below : (c : goal.Start) → c.args.reserved < 2 ^ 63
+reserved-below : (c : Start) → c.args.reserved < 2 ^ 63
 unfolding M
 reserved-below c = omega arith
 
-fits : (c : goal.Start) → mag (pos c.args.actual -ℤ pos c.args.reserved) < 2 ^ 63
+fits : (c : Start) → mag (pos c.args.actual -ℤ pos c.args.reserved) < 2 ^ 63
 fits c = difference-fits c.args.actual c.args.reserved (2 ^ 63) (actual-below c) (reserved-below c)
 
 pub overflow_sub-result : goal.overflow_sub-result

@@ -14,11 +14,19 @@ use Rattle.rules.specs.AccountRules.{natural}
 use Rattle.numbers.specs.declared.Remainder.TheVariants.{Left}
 use Rattle.numbers.specs.Amounts.{remainder_of}
 use Rattle.numbers.proofs.Amounts.{held, held-is, negative-is, natural-is, delta-overruns, delta-taken}
+use Rattle.numbers.proofs.less_delta.Lts as place
+use Rattle.numbers.proofs.less_delta.Tie as tie
 use Rattle.numbers.proofs.less_delta.Goals as goal
+
+abbrev Then-d-lt0 : Type 0
+Then-d-lt0 = place.Then1 tie.handed_pre tie.handed_post
+
+abbrev Else-d-lt0 : Type 0
+Else-d-lt0 = place.Else1 tie.handed_pre tie.handed_post
 
 -- ── a delta below 0 ────────────────────────────────────────────────────────────────────────────
 
-module _ (c : goal.Then-d-lt0) where
+module _ (c : Then-d-lt0) where
   abbrev z : ℤ
   z = c.args.delta.0
 
@@ -59,7 +67,7 @@ returns-then-d-lt0 c =
 
 -- ── any other ──────────────────────────────────────────────────────────────────────────────────
 
-module _ (c : goal.Else-d-lt0) where
+module _ (c : Else-d-lt0) where
   abbrev z' : ℤ
   z' = c.args.delta.0
 

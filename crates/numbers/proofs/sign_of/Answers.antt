@@ -11,7 +11,12 @@ use mir.Val.{Fits}
 use Rattle.numbers.specs.declared.Sign.TheVariants.{Natural}
 use Rattle.numbers.specs.Amounts.{sign_of}
 use Rattle.numbers.proofs.Amounts.{held, held-is, negative-is, natural-is}
+use Rattle.numbers.proofs.sign_of.Lts as place
+use Rattle.numbers.proofs.sign_of.Tie as tie
 use Rattle.numbers.proofs.sign_of.Goals as goal
+
+abbrev Else-x-lt0 : Type 0
+Else-x-lt0 = place.Else1 tie.handed_pre tie.handed_post
 
 pub returns-then-x-lt0 : goal.returns-then-x-lt0
 returns-then-x-lt0 c =
@@ -21,7 +26,7 @@ returns-then-x-lt0 c =
     sym (ap sign_of (negative-is z (rw e at negative)))
 
 -- what is not negative is held as the number it is
-natural : (c : goal.Else-x-lt0) → (c.args.m.0 ≡ pos (mag c.args.m.0)) × (held c.args.m.0 ≡ pos (mag c.args.m.0))
+natural : (c : Else-x-lt0) → (c.args.m.0 ≡ pos (mag c.args.m.0)) × (held c.args.m.0 ≡ pos (mag c.args.m.0))
 natural c =
     let z = c.args.m.0 in
     let e = held-is z c.struct_told-1.given.0.1 in

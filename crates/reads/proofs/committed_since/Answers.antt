@@ -8,21 +8,29 @@ use borrow.Author.Rules.{rules}
 use Rattle.rules.specs.RoomAndSoundLedger.{M}
 use Rattle.rules.specs.AnswerNumbers.{Amount, done}
 use Rattle.reads.proofs.Totals.{baseline-small, baseline-below, since-reads, since-overflows}
+use Rattle.reads.proofs.committed_since.Lts as place
+use Rattle.reads.proofs.committed_since.Tie as tie
 use Rattle.reads.proofs.committed_since.Goals as goal
 
+abbrev In-Fits-2 : Type 0
+In-Fits-2 = place.After-total tie.the-claims tie.handed_pre tie.handed_post
+
+abbrev After-struct_known-1 : Type 0
+After-struct_known-1 = place.After-struct_known tie.the-claims tie.handed_pre tie.handed_post
+
 -- where the total is above M
-above : (c : goal.After-struct_known-1) → c.load_head-head.result.baseline ≤ M
+above : (c : After-struct_known-1) → c.load_head-head.result.baseline ≤ M
 above c =
     baseline-small c.args.room.now c.requires.ledger c.requires.is_room c.load_head-head.result c.load_head-head.ensures
 
 -- where it fits
-below : (c : goal.In-Fits-2) → (c.load_head-head.result.baseline ≤ c.in-Fits.total) × (c.in-Fits.total ≤ M)
+below : (c : In-Fits-2) → (c.load_head-head.result.baseline ≤ c.in-Fits.total) × (c.in-Fits.total ≤ M)
 below c =
     baseline-below c.args.room.now c.requires.ledger c.requires.is_room c.load_head-head.result c.load_head-head.ensures c.sum_committed.result c.in-Fits.total (c.sum_committed.ensures c.requires.ledger c.requires.is_room) c.in-Fits.is
 
 pub overflow_sub-head : goal.overflow_sub-head
 unfolding M
-overflow_sub-head c = above c
+overflow_sub-head c = above c.before
 
 pub amount-requires : goal.amount-requires
 unfolding M
@@ -35,10 +43,10 @@ returns-in_default c L room =
     ∙ since-overflows c.args.room.now L room c.load_head-head.result c.load_head-head.ensures c.sum_committed.result (c.sum_committed.ensures L room) c.in_default.is
 
 pub overflow_sub-total : goal.overflow_sub-total
-overflow_sub-total c = (below c.before.before).0
+overflow_sub-total c = (below c.before.before.before).0
 
 pub amount-requires-2 : goal.amount-requires-2
-amount-requires-2 c = omega (arith, (below c.before.before).1)
+amount-requires-2 c = omega (arith, (below c.before.before.before).1)
 
 pub returns : goal.returns
 returns c L room =

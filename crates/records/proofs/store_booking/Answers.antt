@@ -9,5 +9,4 @@ use Rattle.records.proofs.store_booking.Goals as goal
 pub returns : goal.returns
 returns c =
     let a = c.args in
-    let to = a.base + booking_size * a.i in
-    ((λ j. put to (span to booking_size j) a.room.now (c.write_booking.ensures j)), search rules)
+    let to = a.base + booking_size * a.i in record { stored = (λ j. put to (span to booking_size j) a.room.now (c.write_booking.ensures j)); fits = search rules }

@@ -13,7 +13,4 @@ pub returns : goal.returns
 returns c =
     let a = c.args in
     let used : _ ≡ little_bytes 8 a.used = c.write8.ensures in
-    let live : _ ≡ little_bytes 8 a.live = c.write8-2.ensures in (
-      (λ j. put live_offset 8 (put counts_offset 8 a.room.now (used j)) (live j)) ∙ fields-written counts_offset pair_widths (a.used ∷ a.live ∷ []) a.room.now refl (omega (arith, c.requires)),
-      search rules,
-    )
+    let live : _ ≡ little_bytes 8 a.live = c.write8-2.ensures in record { stored = (λ j. put live_offset 8 (put counts_offset 8 a.room.now (used j)) (live j)) ∙ fields-written counts_offset pair_widths (a.used ∷ a.live ∷ []) a.room.now refl (omega (arith, c.requires)); fits = search rules }

@@ -15,7 +15,4 @@ returns c =
     let h = c.args.head in
     let next : _ ≡ little_bytes 8 h.next_id = c.write8.ensures in
     let version : _ ≡ little_bytes 8 h.last_version = c.write8-2.ensures in
-    let baseline : _ ≡ little_bytes 8 h.baseline = c.write8-3.ensures in (
-      (λ j. put baseline_offset 8 (put last_version_offset 8 (put ledger_head_offset 8 room (next j)) (version j)) (baseline j)) ∙ fields-written ledger_head_offset head_widths (head_numbers h) room refl (omega (arith, c.requires)),
-      search rules,
-    )
+    let baseline : _ ≡ little_bytes 8 h.baseline = c.write8-3.ensures in record { stored = (λ j. put baseline_offset 8 (put last_version_offset 8 (put ledger_head_offset 8 room (next j)) (version j)) (baseline j)) ∙ fields-written ledger_head_offset head_widths (head_numbers h) room refl (omega (arith, c.requires)); fits = search rules }

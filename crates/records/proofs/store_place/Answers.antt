@@ -8,5 +8,4 @@ use Rattle.records.proofs.store_place.Goals as goal
 pub returns : goal.returns
 returns c =
     let a = c.args in
-    let to = place_start a.i in
-    ((λ j. put to (span to place_size j) a.room.now (c.write_place.ensures j)), search rules)
+    let to = place_start a.i in record { stored = (λ j. put to (span to place_size j) a.room.now (c.write_place.ensures j)); fits = search rules }

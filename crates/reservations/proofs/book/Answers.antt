@@ -8,18 +8,26 @@ use Rattle.room.specs.Contents.{contents_of, Sized, with_head, appended_booking}
 use Rattle.tables.proofs.Stores.{sized-by, loaded}
 use Rattle.reservations.specs.Steps.{granted, full}
 use Rattle.reservations.proofs.Stepping.{seated-sizes, seated-sized, appended-sized}
+use Rattle.reservations.proofs.book.Lts as place
+use Rattle.reservations.proofs.book.Tie as tie
 use Rattle.reservations.proofs.book.Goals as goal
+
+abbrev Start : Type 0
+Start = place.Start tie.the-claims tie.handed_pre tie.handed_post
+
+abbrev Else-sizes : Type 0
+Else-sizes = place.Else1 tie.the-claims tie.handed_pre tie.handed_post
 
 pub returns-then-sizes : goal.returns-then-sizes
 returns-then-sizes c =
     let z = loaded c.args.room.now c.load_sizes-sizes.result c.requires.0 c.load_sizes-sizes.ensures in
     full (sym z.live ∙ c.if-sizes.true ∙ z.reservations)
 
-abbrev start : goal.Else-sizes → goal.Start
+abbrev start : Else-sizes → Start
 start c = c.before.before.before.before
 
 -- fewer are live than there is room for
-room_left : (c : goal.Else-sizes) → (contents_of (start c).args.room.now).sizes.live < (contents_of (start c).args.room.now).sizes.reservations
+room_left : (c : Else-sizes) → (contents_of (start c).args.room.now).sizes.live < (contents_of (start c).args.room.now).sizes.reservations
 room_left c =
     let s = start c in
     let z = loaded s.args.room.now c.load_sizes-sizes.result s.requires.0 c.load_sizes-sizes.ensures in
@@ -50,9 +58,9 @@ put_head-requires c =
 
 pub returns : goal.returns
 returns c =
-    let s = start c.before.before.before.before.before.before.before.before.before.before.before.before.before in
+    let s = start c.before.before.before.before.before.before.before.before.before.before.before.before.before.before in
     let put = c.put_seat.ensures in
     let appended = c.append_booking.ensures in
     let drew = c.put_head.ensures in
-    granted c.amount.result _ (room_left c.before.before.before.before.before.before.before.before.before.before.before.before.before) c.amount.ensures (drew.0 ∙ appended.0 ∙ put.0)
+    granted c.amount.result _ (room_left c.before.before.before.before.before.before.before.before.before.before.before.before.before.before) c.amount.ensures (drew.0 ∙ appended.0 ∙ put.0)
     (drew.1 ∙ ap (with_head s.args.head) (appended.1 ∙ ap (appended_booking _) put.1))

@@ -23,29 +23,61 @@ use Rattle.room.proofs.Seating.{seat-small}
 use Rattle.reservations.specs.declared.Due.{Due}
 use Rattle.reservations.proofs.Fitting.{commit-fits}
 use Rattle.reservations.proofs.Ending.{Settled, end-allowed, gone, refuses, refuses-any, settled, leaves, ends, FoundBooking, found-booking}
+use Rattle.reservations.proofs.commit.Lts as place
+use Rattle.reservations.proofs.commit.Tie as tie
 use Rattle.reservations.proofs.commit.Goals as goal
+
+abbrev Start : Type 0
+Start = place.Start tie.the-claims tie.handed_pre tie.handed_post
+
+abbrev After-sign_of : Type 0
+After-sign_of = place.After-sign_of tie.the-claims tie.handed_pre tie.handed_post
+
+abbrev In-Natural : Type 0
+In-Natural = place.After-known_told tie.the-claims tie.handed_pre tie.handed_post
+
+abbrev After-find_booking : Type 0
+After-find_booking = place.After-find_booking tie.the-claims tie.handed_pre tie.handed_post
+
+abbrev In-At-2 : Type 0
+In-At-2 = place.After-j tie.the-claims tie.handed_pre tie.handed_post
+
+abbrev After-tenant_of : Type 0
+After-tenant_of = place.After-tenant_of tie.the-claims tie.handed_pre tie.handed_post
+
+abbrev In-Present : Type 0
+In-Present = place.After-enum_told3 tie.the-claims tie.handed_pre tie.handed_post
+
+abbrev In_default-plus : Type 0
+In_default-plus = place.After-enum_told5 tie.the-claims tie.handed_pre tie.handed_post
+
+abbrev After-commit : Type 0
+After-commit = place.After-commit tie.the-claims tie.handed_pre tie.handed_post
+
+abbrev In-Ended : Type 0
+In-Ended = place.After-known_told4 tie.the-claims tie.handed_pre tie.handed_post
 
 -- ── at the entry ───────────────────────────────────────────────────────────────────────────────
 
-abbrev room : goal.Start → List ℕ
+abbrev room : Start → List ℕ
 room s = s.args.room.now
 
-abbrev id : goal.Start → ℕ
+abbrev id : Start → ℕ
 id s = s.args.id.0
 
-abbrev actual : goal.Start → ℤ
+abbrev actual : Start → ℤ
 actual s = s.args.actual.0
 
-actual-fits : (s : goal.Start) → IsAmount (actual s)
+actual-fits : (s : Start) → IsAmount (actual s)
 actual-fits s = amount-fits (actual s) (omega arith)
 
-abbrev operation : goal.Start → AccountOperation ℕ
+abbrev operation : Start → AccountOperation ℕ
 operation s = commit (id s) (actual s)
 
-abbrev entry : goal.After-sign_of → goal.Start
+abbrev entry : After-sign_of → Start
 entry c = c.before.before
 
-settles : (s : goal.Start) (L : Ledger) → operate L (operation s) ≡ on_booking L (booked (id s) L.bookings) (commit_rule (actual s))
+settles : (s : Start) (L : Ledger) → operate L (operation s) ≡ on_booking L (booked (id s) L.bookings) (commit_rule (actual s))
 unfolding operate
 settles s L = refl
 
@@ -53,25 +85,25 @@ settles s L = refl
 
 pub returns-in_default : goal.returns-in_default
 returns-in_default c L r =
-    let s = entry c.before.before in
+    let s = entry c.before.before.before in
     let negative = sign-negative (actual s) (told c.sign_of.ensures c.in_default.is) in
     refuses-any (room s) L r (operation s) (id s) (commit_rule (actual s)) (settles s L) InvalidAmount (λ live a l. commit-negative (actual s) live a l negative) _ refl
 
-abbrev spent : goal.In-Natural → ℕ
+abbrev spent : In-Natural → ℕ
 spent c = c.in-Natural.spent
 
-actual-is : (c : goal.In-Natural) → actual (entry c.before.before.before) ≡ pos (spent c)
+actual-is : (c : In-Natural) → actual (entry c.before.before.before) ≡ pos (spent c)
 actual-is c = sign-natural (actual (entry c.before.before.before)) _ (told c.sign_of.ensures c.in-Natural.is)
 
 pub find_booking-requires : goal.find_booking-requires
 find_booking-requires c = searchable (room c.before.before.before.before.before) c.requires
 
 -- where the amount is known not to be negative
-abbrev natural : goal.After-find_booking → goal.In-Natural
+abbrev natural : After-find_booking → In-Natural
 natural c = c.before
 
-abbrev start : goal.After-find_booking → goal.Start
-start c = entry (natural c).before.before.before.before.before
+abbrev start : After-find_booking → Start
+start c = entry (natural c).before.before.before
 
 pub returns-in_default-find_booking : goal.returns-in_default-find_booking
 returns-in_default-find_booking c L r =
@@ -81,10 +113,10 @@ returns-in_default-find_booking c L r =
 
 -- ── the reservation that was found ─────────────────────────────────────────────────────────────
 
-abbrev at : goal.In-At-2 → ℕ
+abbrev at : In-At-2 → ℕ
 at c = c.in-At.j
 
-found : (c : goal.In-At-2) → let s = start c.before.before in FoundBooking (room s) (id s) (at c)
+found : (c : In-At-2) → let s = start c.before.before in FoundBooking (room s) (id s) (at c)
 found c =
     let s = start c.before.before in
     found-booking (room s) s.requires (id s) (at c) c.find_booking.result c.find_booking.ensures c.in-At.is
@@ -92,26 +124,26 @@ found c =
 pub due_at-due-requires : goal.due_at-due-requires
 due_at-due-requires c = (found c.before).readable
 
-abbrev place : goal.After-tenant_of → goal.In-At-2
+abbrev place : After-tenant_of → In-At-2
 place c = c.before.before.before.before.before
 
-abbrev due : goal.After-tenant_of → Due
+abbrev due : After-tenant_of → Due
 due c = c.due_at-due.result
 
-abbrev begun : goal.After-tenant_of → goal.Start
-begun c = start (place c).before.before.before.before.before.before.before.before
+abbrev begun : After-tenant_of → Start
+begun c = start (place c).before.before
 
-amount-is : (c : goal.After-tenant_of) → actual (begun c) ≡ pos (spent (natural (place c).before.before))
+amount-is : (c : After-tenant_of) → actual (begun c) ≡ pos (spent (natural (place c).before.before))
 amount-is c = actual-is (natural (place c).before.before)
 
-allowed : (c : goal.After-tenant_of) → SeatSound (due c).seat × ((due c).amount.0 ≤ (due c).seat.reserved)
+allowed : (c : After-tenant_of) → SeatSound (due c).seat × ((due c).amount.0 ≤ (due c).seat.reserved)
 allowed c = (found (place c)).allowed (due c) c.due_at-due.ensures
 
 -- whatever ledger the room holds, it is decided to be this
-abbrev Decides : goal.After-tenant_of → Settlement → Type 0
+abbrev Decides : After-tenant_of → Settlement → Type 0
 Decides c d = let s = begun c in (L : Ledger) → IsRoom (room s) L → Settled L (operation s) (id s) (at (place c)) (due c) d
 
-decided : (c : goal.After-tenant_of) (d : Settlement) → d ≡ commit_rule (actual (begun c)) (some (due c).amount.0) (account_of (due c).seat) (due c).seat.limit → Decides c d
+decided : (c : After-tenant_of) (d : Settlement) → d ≡ commit_rule (actual (begun c)) (some (due c).amount.0) (account_of (due c).seat) (due c).seat.limit → Decides c d
 decided c d e L k =
     let s = begun c in
     settled (room s) L k (operation s) (id s) (commit_rule (actual s)) (settles s L) (at (place c)) ((found (place c)).is_live L k) (due c) (c.due_at-due.ensures L k) d e (commit-fits (actual s))
@@ -125,13 +157,13 @@ returns-in_default-tenant_of c L r =
     leaves (room s) L r (operation s) (id s) (at (place c.before.before)) _ MissingTenant (decided c.before.before _ (commit-missing (due c.before.before).seat _ _ _ (amount-is c.before.before) missing) L r) _ refl
 
 -- the airline has an account
-abbrev asked : goal.In-Present → goal.After-tenant_of
+abbrev asked : In-Present → After-tenant_of
 asked c = c.before.before
 
-tenant : (c : goal.In-Present) → tenant_of (due (asked c)).seat ≡ Present
+tenant : (c : In-Present) → tenant_of (due (asked c)).seat ≡ Present
 tenant c = told (asked c).tenant_of.ensures c.in-Present.is
 
-overflows : (c : goal.In_default-plus) → let t = asked c.before.before.before in Decides t (leave (OverflowOfCommit (pos (due t).seat.remaining)))
+overflows : (c : In_default-plus) → let t = asked c.before.before.before in Decides t (leave (OverflowOfCommit (pos (due t).seat.remaining)))
 overflows c =
     let t = asked c.before.before.before in
     decided t _ (commit-overflows (due t).seat _ _ _ (amount-is t) (is-present (due t).seat (tenant c.before.before.before)) (above-sum _ _ (told c.plus.ensures c.in_default-plus.is)))
@@ -145,13 +177,12 @@ returns-in_default-plus c L r =
 pub commit-requires : goal.commit-requires
 commit-requires c =
     let t = asked c.before.before.before.before in
-    let sum = fits_sum _ _ _ (told c.plus.ensures c.in-Fits.is) in
-    (((allowed t).0, tenant c.before.before.before.before, (allowed t).1), (sum.0, omega (arith, sum)))
+    let sum = fits_sum _ _ _ (told c.plus.ensures c.in-Fits.is) in record { known = ((allowed t).0, tenant c.before.before.before.before, (allowed t).1); sum = (sum.0, omega (arith, sum)) }
 
-abbrev tenanted : goal.After-commit → goal.In-Present
+abbrev tenanted : After-commit → In-Present
 tenanted c = c.before.before.before.before.before
 
-settlement : (c : goal.After-commit) (r : Committing) → c.commit.result ≡ r → let t = asked (tenanted c) in Decides t (committing_settlement (actual (begun t)) (due t).seat.remaining r)
+settlement : (c : After-commit) (r : Committing) → c.commit.result ≡ r → let t = asked (tenanted c) in Decides t (committing_settlement (actual (begun t)) (due t).seat.remaining r)
 settlement c r e =
     let t = asked (tenanted c) in
     let seat = (due t).seat in
@@ -166,10 +197,10 @@ returns-in_default-commit c L r =
 
 -- ── the reservation ends ───────────────────────────────────────────────────────────────────────
 
-ending : (c : goal.In-Ended) → let t = asked (tenanted c.before.before.before) in Decides t (committing_settlement (actual (begun t)) (due t).seat.remaining (committing.Ended c.in-Ended.ended))
+ending : (c : In-Ended) → let t = asked (tenanted c.before.before.before) in Decides t (committing_settlement (actual (begun t)) (due t).seat.remaining (committing.Ended c.in-Ended.ended))
 ending c = settlement c.before.before.before _ c.in-Ended.is
 
-ended-sound : (c : goal.In-Ended) → SeatSound c.in-Ended.ended
+ended-sound : (c : In-Ended) → SeatSound c.in-Ended.ended
 ended-sound c = subst CommittingSound c.in-Ended.is c.commit.ensures.1
 
 pub end-requires : goal.end-requires
@@ -181,10 +212,10 @@ end-requires c =
 
 pub returns : goal.returns
 returns c L r =
-    let t = asked (tenanted c.before.before.before.before.before.before.before.before) in
+    let t = asked (tenanted c.before.before.before.before.before.before.before.before.before) in
     let s = begun t in
     let done = c.end in
-    ends (room s) L r (operation s) (id s) (at (place t)) _ (actual-fits s) _ _ (ending c.before.before.before.before.before L r) (ended-sound c.before.before.before.before.before) _ (ap (λ v. done_with (v ∷ actual s ∷ [])) c.amount-2.ensures) done.new.0 done.ensures
+    ends (room s) L r (operation s) (id s) (at (place t)) _ (actual-fits s) _ _ (ending c.before.before.before.before.before.before L r) (ended-sound c.before.before.before.before.before.before) _ (ap (λ v. done_with (v ∷ actual s ∷ [])) c.amount-2.ensures) done.new.0 done.ensures
 
 pub amount-requires : goal.amount-requires
 amount-requires c = (seat-small _ (allowed (asked c.before.before.before)).0).remaining
@@ -193,7 +224,7 @@ pub amount-requires-in_default-commit : goal.amount-requires-in_default-commit
 amount-requires-in_default-commit c = (seat-small _ (allowed (asked (tenanted c.before.before))).0).remaining
 
 pub amount-requires-2 : goal.amount-requires-2
-amount-requires-2 c = (seat-small _ (ended-sound c.before.before.before.before)).remaining
+amount-requires-2 c = (seat-small _ (ended-sound c.before.before.before.before.before)).remaining
 
 pub plus-requires : goal.plus-requires
 plus-requires c = (seat-small _ (allowed (asked c)).0).committed

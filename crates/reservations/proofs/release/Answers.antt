@@ -16,23 +16,37 @@ use Rattle.room.proofs.SoundRoom.{searchable}
 use Rattle.room.proofs.Seating.{seat-small}
 use Rattle.reservations.proofs.Fitting.{release-fits}
 use Rattle.reservations.proofs.Ending.{Settled, end-allowed, gone, refuses, settled, leaves, ends, FoundBooking, found-booking}
+use Rattle.reservations.proofs.release.Lts as place
+use Rattle.reservations.proofs.release.Tie as tie
 use Rattle.reservations.proofs.release.Goals as goal
+
+abbrev Start : Type 0
+Start = place.Start tie.the-claims tie.handed_pre tie.handed_post
+
+abbrev In-At-2 : Type 0
+In-At-2 = place.After-j tie.the-claims tie.handed_pre tie.handed_post
+
+abbrev After-release : Type 0
+After-release = place.After-release tie.the-claims tie.handed_pre tie.handed_post
+
+abbrev In-Returned : Type 0
+In-Returned = place.After-known_told2 tie.the-claims tie.handed_pre tie.handed_post
 
 -- ── at the entry ───────────────────────────────────────────────────────────────────────────────
 
-abbrev room : goal.Start → List ℕ
+abbrev room : Start → List ℕ
 room s = s.args.room.now
 
-abbrev id : goal.Start → ℕ
+abbrev id : Start → ℕ
 id s = s.args.id.0
 
-abbrev operation : goal.Start → AccountOperation ℕ
+abbrev operation : Start → AccountOperation ℕ
 operation s = release (id s)
 
-abbrev ledger : goal.Start → Ledger
+abbrev ledger : Start → Ledger
 ledger s = s.requires.ledger
 
-is_room : (s : goal.Start) → IsRoom (room s) (ledger s)
+is_room : (s : Start) → IsRoom (room s) (ledger s)
 is_room s = s.requires.is_room
 
 pub find_booking-requires : goal.find_booking-requires
@@ -40,10 +54,10 @@ find_booking-requires c = searchable (room c.before) c.requires
 
 -- ── the reservation that was found ─────────────────────────────────────────────────────────────
 
-abbrev at : goal.In-At-2 → ℕ
+abbrev at : In-At-2 → ℕ
 at c = c.in-At.j
 
-found : (c : goal.In-At-2) → FoundBooking (room c.before.before.before.before) (id c.before.before.before.before) (at c)
+found : (c : In-At-2) → FoundBooking (room c.before.before.before.before) (id c.before.before.before.before) (at c)
 found c =
     let f = c.find_booking in
     found-booking (room c.before.before.before.before) c.requires (id c.before.before.before.before) (at c) f.result f.ensures c.in-At.is
@@ -54,24 +68,24 @@ due_at-due-requires c = (found c.before).readable
 pub release-requires : goal.release-requires
 release-requires c = let due = c.due_at-due in (found c.before.before.before.before).allowed due.result due.ensures
 
-abbrev place : goal.After-release → goal.In-At-2
+abbrev place : After-release → In-At-2
 place c = c.before.before.before.before.before
 
-abbrev start : goal.After-release → goal.Start
+abbrev start : After-release → Start
 start c = c.before.before.before.before.before.before.before.before.before
 
-settles : (s : goal.Start) (L : Ledger) → operate L (operation s) ≡ on_booking L (booked (id s) L.bookings) release_rule
+settles : (s : Start) (L : Ledger) → operate L (operation s) ≡ on_booking L (booked (id s) L.bookings) release_rule
 unfolding operate
 settles s L = refl
 
 -- whatever ledger the room holds, it is decided to be this
-abbrev Decides : goal.After-release → Releasing → Type 0
+abbrev Decides : After-release → Releasing → Type 0
 Decides c r =
     let s = start c in
     let d = c.due_at-due.result in
     (L : Ledger) → IsRoom (room s) L → Settled L (operation s) (id s) (at (place c)) d (releasing_settlement d.amount.0 r)
 
-told : (c : goal.After-release) (r : Releasing) → c.release.result ≡ r → Decides c r
+told : (c : After-release) (r : Releasing) → c.release.result ≡ r → Decides c r
 told c r e L k =
     let s = start c in
     let due = c.due_at-due in
@@ -91,10 +105,10 @@ returns-in_default-release c L r =
 
 -- ── the reservation ends ───────────────────────────────────────────────────────────────────────
 
-ending : (c : goal.In-Returned) → Decides c.before.before.before (releasing.Returned c.in-Returned.returned)
+ending : (c : In-Returned) → Decides c.before.before.before (releasing.Returned c.in-Returned.returned)
 ending c = told c.before.before.before _ c.in-Returned.is
 
-returned-sound : (c : goal.In-Returned) → SeatSound c.in-Returned.returned
+returned-sound : (c : In-Returned) → SeatSound c.in-Returned.returned
 returned-sound c = subst ReleasingSound c.in-Returned.is c.release.ensures.1
 
 pub end-requires : goal.end-requires
@@ -104,17 +118,17 @@ end-requires c =
     (allowed.0, omega (arith, allowed.1), omega (arith, allowed.2))
 
 pub amount-requires : goal.amount-requires
-amount-requires c = (seat-small _ (returned-sound c.before.before.before.before)).remaining
+amount-requires c = (seat-small _ (returned-sound c.before.before.before.before.before)).remaining
 
 -- what was reserved is part of an account
 pub amount-requires-2 : goal.amount-requires-2
 amount-requires-2 c =
     let due = c.due_at-due in
-    let allowed = (found (place c.before.before.before.before.before.before.before.before)).allowed due.result due.ensures in
+    let allowed = (found (place c.before.before.before.before.before.before.before.before.before)).allowed due.result due.ensures in
     omega (arith, allowed.1, (seat-small _ allowed.0).reserved)
 
 pub returns : goal.returns
 returns c L r =
-    let s = start c.before.before.before.before.before.before.before.before.before in
+    let s = start c.before.before.before.before.before.before.before.before.before.before in
     let done = c.end in
-    ends (room s) L r (operation s) (id s) (at (place c.before.before.before.before.before.before.before.before.before)) _ tt _ _ (ending c.before.before.before.before.before.before L r) (returned-sound c.before.before.before.before.before.before) _ (ap₂ (λ v w. done_with (v ∷ w ∷ [])) c.amount.ensures c.amount-2.ensures) done.new.0 done.ensures
+    ends (room s) L r (operation s) (id s) (at (place c.before.before.before.before.before.before.before.before.before.before)) _ tt _ _ (ending c.before.before.before.before.before.before.before L r) (returned-sound c.before.before.before.before.before.before.before) _ (ap₂ (λ v w. done_with (v ∷ w ∷ [])) c.amount.ensures c.amount-2.ensures) done.new.0 done.ensures

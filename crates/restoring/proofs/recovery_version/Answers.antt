@@ -5,12 +5,17 @@ use borrow.Author.Rules.{rules}
 use borrow.Author.Tests.{not-true, not-false}
 use Rattle.rules.specs.RoomAndSoundLedger.{has_tag}
 use Rattle.restoring.proofs.Versions.{legacy, zero-fence-refused, recovers}
+use Rattle.restoring.proofs.recovery_version.Lts as place
+use Rattle.restoring.proofs.recovery_version.Tie as tie
 use Rattle.restoring.proofs.recovery_version.Goals as goal
+
+abbrev Else-not-has_tag : Type 0
+Else-not-has_tag = place.Else1 tie.the-claims tie.handed_pre tie.handed_post
 
 pub returns-then-not-has_tag : goal.returns-then-not-has_tag
 returns-then-not-has_tag c = sym (legacy _ (sym c.has_tag.ensures ∙ not-true _ c.if-not-has_tag.true-raw))
 
-tag : (c : goal.Else-not-has_tag) → has_tag c.args.version ≡ true
+tag : (c : Else-not-has_tag) → has_tag c.args.version ≡ true
 tag c = sym c.has_tag.ensures ∙ not-false _ c.if-not-has_tag.false-raw
 
 pub returns-then-fence_of-eq0 : goal.returns-then-fence_of-eq0

@@ -4,23 +4,30 @@ use mathlib.Core.List.{[]}
 use borrow.Author.Rules.{rules}
 use Rattle.validation.specs.Judgement.{refusal_of}
 use Rattle.restoring.proofs.Restoring.{Told, checked, refused, taken, replaced}
+use Rattle.restoring.proofs.restore_by.Lts as place
+use Rattle.restoring.proofs.restore_by.Tie as tie
 use Rattle.restoring.proofs.restore_by.Goals as goal
 
-abbrev entry : goal.After-refusal-judged → goal.After-shared_slice_known-1
+abbrev After-shared_slice_known-1 : Type 0
+After-shared_slice_known-1 = place.After-shared_slice_known tie.the-claims tie.handed_pre tie.handed_post
+
+abbrev After-refusal-judged : Type 0
+After-refusal-judged = place.After-refusal tie.the-claims tie.handed_pre tie.handed_post
+
+abbrev entry : After-refusal-judged → After-shared_slice_known-1
 entry c = c.before.before
 
-told : (c : goal.After-refusal-judged) → let a = (entry c).args in Told (refusal_of [] a.of-version) a.room.now a.bytes.now c.refusal-judged.result
-told c = checked c.load_sizes-sizes.ensures c.refusal-judged.ensures.0
+told : (c : After-refusal-judged) → let a = (entry c).args in Told (refusal_of [] a.of-version) a.room.now a.bytes.now c.refusal-judged.result
+told c = checked c.load_sizes-sizes.ensures c.refusal-judged.ensures.refusal
 
 pub returns-in_default : goal.returns-in_default
-returns-in_default c = (refused (told c.before) c.in-Done.keys2, c.refusal-judged.ensures.1)
+returns-in_default c = record { performs = refused (told c.before.before) c.in-Done.keys2; form = c.refusal-judged.ensures.form }
 
 pub fill-requires : goal.fill-requires
 fill-requires c =
-    let known = (entry c.before.before.before).requires in
-    (known.0, taken (told c.before.before.before) c.in-Done.is known.1)
+    let known = (entry c.before.before.before.before).requires in
+    (known.0, taken (told c.before.before.before.before) c.in-Done.is known.1)
 
 pub returns : goal.returns
 returns c =
-    let start = entry c.before.before.before.before.before.before in
-    (replaced (told c.before.before.before.before.before.before) c.in-Done.is c.fill.ensures start.shared_slice_known-1.given start.requires.2, c.refusal-judged.ensures.1)
+    let start = entry c.before.before.before.before.before.before.before in record { performs = replaced (told c.before.before.before.before.before.before.before) c.in-Done.is c.fill.ensures start.shared_slice_known-1.given start.requires.2; form = c.refusal-judged.ensures.form }

@@ -9,12 +9,20 @@ use borrow.Author.Tests.{not-true, not-false}
 use Rattle.rules.specs.RoomAndSoundLedger.{M, has_tag}
 use Rattle.rules.specs.AnswerNumbers.{version_field, NegativeLedgerField}
 use Rattle.restoring.proofs.Versions.{untagged-small, untagged-carried, zero-fence-carried, restores}
+use Rattle.restoring.proofs.restore_version.Lts as place
+use Rattle.restoring.proofs.restore_version.Tie as tie
 use Rattle.restoring.proofs.restore_version.Goals as goal
 
-untagged : (c : goal.Then-not-has_tag) → has_tag c.args.version ≡ false
+abbrev Then-not-has_tag : Type 0
+Then-not-has_tag = place.Then1 tie.the-claims tie.handed_pre tie.handed_post
+
+abbrev Else-not-has_tag : Type 0
+Else-not-has_tag = place.Else1 tie.the-claims tie.handed_pre tie.handed_post
+
+untagged : (c : Then-not-has_tag) → has_tag c.args.version ≡ false
 untagged c = sym c.has_tag.ensures ∙ not-true _ c.if-not-has_tag.true-raw
 
-tag : (c : goal.Else-not-has_tag) → has_tag c.args.version ≡ true
+tag : (c : Else-not-has_tag) → has_tag c.args.version ≡ true
 tag c = sym c.has_tag.ensures ∙ not-false _ c.if-not-has_tag.false-raw
 
 pub amount-requires : goal.amount-requires

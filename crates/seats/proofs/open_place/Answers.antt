@@ -9,7 +9,12 @@ use Rattle.rules.specs.RoomAndSoundLedger.{Ledger}
 use Rattle.room.specs.Room.{IsRoom}
 use Rattle.room.proofs.SoundRoom.{sized, searchable}
 use Rattle.seats.proofs.Places.{sizes-read, owners-small, one_more, place-for, opens, full}
+use Rattle.seats.proofs.open_place.Lts as place
+use Rattle.seats.proofs.open_place.Tie as tie
 use Rattle.seats.proofs.open_place.Goals as goal
+
+abbrev Else-sizes : Type 0
+Else-sizes = place.Else1 tie.the-claims tie.handed_pre tie.handed_post
 
 pub returns-then-sizes : goal.returns-then-sizes
 returns-then-sizes c L room =
@@ -18,7 +23,7 @@ returns-then-sizes c L room =
     full L xs room c.args.part.now c.args.seat c.requires.3 (c.requires.4 L room) (sym read.0 ∙ c.if-sizes.true ∙ read.1)
 
 -- there is room for one more name
-room_left : (c : goal.Else-sizes) (L : Ledger) → IsRoom c.args.room.now L → length L.places < L.T
+room_left : (c : Else-sizes) (L : Ledger) → IsRoom c.args.room.now L → length L.places < L.T
 room_left c L room =
     let read = sizes-read L c.args.room.now room c.load_sizes-sizes.result c.load_sizes-sizes.ensures in
     let unequal : c.load_sizes-sizes.result.used ≡ c.load_sizes-sizes.result.names → ⊥ = c.if-sizes.false in
@@ -33,9 +38,9 @@ insert_place-requires c =
     let xs = c.args.room.now in
     let L = c.requires.0.ledger in
     let room = c.requires.0.is_room in
-    (sized xs L room, omega (arith, c.place_for-at.ensures, place-for L xs room c.args.part.now), one_more L xs room (room_left c.before.before.before L room), owners-small L xs room)
+    (sized xs L room, omega (arith, c.place_for-at.ensures, place-for L xs room c.args.part.now), one_more L xs room (room_left c.before.before.before.before L room), owners-small L xs room)
 
 pub returns : goal.returns
 returns c L room =
-    opens L c.args.room.now room c.args.part.now c.args.seat c.insert_place.new.room c.insert_place.ensures.0 c.requires.2 c.requires.3 (c.requires.4 L room) (room_left c.before.before.before.before.before.before L room)
+    opens L c.args.room.now room c.args.part.now c.args.seat c.insert_place.new.room c.insert_place.ensures.0 c.requires.2 c.requires.3 (c.requires.4 L room) (room_left c.before.before.before.before.before.before.before L room)
     c.place_for-at.result c.place_for-at.ensures c.name_of-name.result c.name_of-name.ensures c.insert_place.ensures.1

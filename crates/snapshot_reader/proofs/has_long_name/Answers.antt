@@ -13,15 +13,29 @@ use Rattle.rules.specs.RoomAndSoundLedger.{longest_name}
 use Rattle.snapshot_reader.specs.Standing.{OfSnapshot, RowStands, Passed}
 use Rattle.snapshot_reader.proofs.Rows.{first-row, start, at_row, stands, Further, forward, advance, finished}
 use Rattle.snapshot_reader.proofs.Header.{header}
+use Rattle.snapshot_reader.proofs.has_long_name.Lts as place
+use Rattle.snapshot_reader.proofs.has_long_name.Tie as tie
 use Rattle.snapshot_reader.proofs.has_long_name.Goals as goal
 
-abbrev entry : goal.At-loop-at → goal.Start
+abbrev Start : Type 0
+Start = place.Start tie.the-claims tie.handed_pre tie.handed_post goal.the-invariant-loop-at goal.the-decreases-loop-at
+
+abbrev At-loop-at : Type 0
+At-loop-at = place.At-loop tie.the-claims tie.handed_pre tie.handed_post goal.the-invariant-loop-at goal.the-decreases-loop-at
+
+abbrev In-loop-at : Type 0
+In-loop-at = place.In-loop tie.the-claims tie.handed_pre tie.handed_post goal.the-invariant-loop-at goal.the-decreases-loop-at
+
+abbrev After-name_end-at : Type 0
+After-name_end-at = place.After-name_end tie.the-claims tie.handed_pre tie.handed_post goal.the-invariant-loop-at goal.the-decreases-loop-at
+
+abbrev entry : At-loop-at → Start
 entry l = l.before.before
 
-here : (c : goal.In-loop-at) → RowStands (entry c.before).args.bytes.now c.loop-at.at
+here : (c : In-loop-at) → RowStands (entry c.before).args.bytes.now c.loop-at.at
 here c = let is = (entry c.before).requires in stands (c.loop-at.invariant is.snapshot is.is_read) c.loop-at-test.true
 
-further : (c : goal.After-name_end-at) → Further (entry c.before.before.before.before).args.bytes.now c.loop-at.at c.name_end-at.result
+further : (c : After-name_end-at) → Further (entry c.before.before.before.before).args.bytes.now c.loop-at.at c.name_end-at.result
 further c = forward (here c.before.before.before) c.name_end-at.ensures
 
 pub loop-at-init : goal.loop-at-init
@@ -46,10 +60,10 @@ unfolding has_long_name any
 returns c s e = sym (finished (c.loop-at.invariant s e) c.loop-at-test.false)
 
 pub name_end-at-requires : goal.name_end-at-requires
-name_end-at-requires c = here c.before.before
+name_end-at-requires c = here c.before.before.before
 
 pub overflow_add-at : goal.overflow_add-at
-overflow_add-at c = omega (arith, further c)
+overflow_add-at c = omega (arith, further c.before)
 
 pub loop-at-smaller : goal.loop-at-smaller
-loop-at-smaller c = omega (arith, further c)
+loop-at-smaller c = omega (arith, further c.before)

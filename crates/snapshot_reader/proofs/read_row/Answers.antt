@@ -9,10 +9,15 @@ use Rattle.rules.specs.SnapshotsMigrationCertificates.{number_of, signed}
 use Rattle.big_endian.specs.Layout.{row_amounts}
 use Rattle.snapshot_reader.proofs.RowBytes.{amount_at}
 use Rattle.snapshot_reader.proofs.Rows.{amounts}
+use Rattle.snapshot_reader.proofs.read_row.Lts as place
+use Rattle.snapshot_reader.proofs.read_row.Tie as tie
 use Rattle.snapshot_reader.proofs.read_row.Goals as goal
 
+abbrev After-name_end-name_end : Type 0
+After-name_end-name_end = place.After-name_end tie.the-claims tie.handed_pre tie.handed_post
+
 -- the four amounts are there
-room : (c : goal.After-name_end-name_end) → c.name_end-name_end.result + row_amounts ≤ length c.args.bytes.now
+room : (c : After-name_end-name_end) → c.name_end-name_end.result + row_amounts ≤ length c.args.bytes.now
 room c = let s = c.requires in (c.name_end-name_end.ensures s.row s.later s.from).within
 
 -- a lent part of 8 bytes
@@ -35,25 +40,25 @@ returns c row later h =
     }
 
 pub overflow_add-second : goal.overflow_add-second
-overflow_add-second c = omega (arith, room c)
+overflow_add-second c = omega (arith, room c.before)
 
 pub overflow_add-third : goal.overflow_add-third
-overflow_add-third c = omega (arith, room c)
+overflow_add-third c = omega (arith, room c.before)
 
 pub overflow_add-fourth : goal.overflow_add-fourth
-overflow_add-fourth c = omega (arith, room c)
+overflow_add-fourth c = omega (arith, room c.before)
 
 pub overflow_add-end : goal.overflow_add-end
-overflow_add-end c = omega (arith, room c)
+overflow_add-end c = omega (arith, room c.before)
 
 pub slice_bounds-read_amount-end : goal.slice_bounds-read_amount-end
-slice_bounds-read_amount-end c = omega (arith, room c)
+slice_bounds-read_amount-end c = omega (arith, room c.before)
 
 pub slice_bounds-read_amount-end-2 : goal.slice_bounds-read_amount-end-2
-slice_bounds-read_amount-end-2 c = omega (arith, room c.before.before)
+slice_bounds-read_amount-end-2 c = omega (arith, room c.before.before.before)
 
 pub slice_bounds-read_amount-end-3 : goal.slice_bounds-read_amount-end-3
-slice_bounds-read_amount-end-3 c = omega (arith, room c.before.before.before.before)
+slice_bounds-read_amount-end-3 c = omega (arith, room c.before.before.before.before.before)
 
 pub slice_bounds-read_amount-end-4 : goal.slice_bounds-read_amount-end-4
-slice_bounds-read_amount-end-4 c = omega (arith, room c.before.before.before.before.before.before)
+slice_bounds-read_amount-end-4 c = omega (arith, room c.before.before.before.before.before.before.before)

@@ -9,8 +9,8 @@ returns-then-place-eq0 c before rs h = rw (eq-eqb c.args.place.account 0 c.if-pl
 
 pub append_row-requires : goal.append_row-requires
 append_row-requires c =
-    let room = rw (ne_eqb c.args.place.account 0 c.if-place-eq0.false) at c.requires.0 in
-    (room, c.requires.1)
+    let room = rw (ne_eqb c.args.place.account 0 c.if-place-eq0.false) at c.requires.room in
+    (room, c.requires.short)
 
 pub returns : goal.returns
 returns c before rs h =

@@ -8,17 +8,22 @@ use Rattle.rules.specs.SnapshotsMigrationCertificates.{most_rows}
 use Rattle.records.specs.Records.{sizes_of}
 use Rattle.snapshot_writer.proofs.PlaceRows.{used-most, rows-most}
 use Rattle.snapshot_writer.proofs.Answering.{measured, plenty}
+use Rattle.snapshot_writer.proofs.has_room.Lts as place
+use Rattle.snapshot_writer.proofs.has_room.Tie as tie
 use Rattle.snapshot_writer.proofs.has_room.Goals as goal
 
-in_use : (c : goal.After-load_sizes-sizes) → c.load_sizes-sizes.result.used ≡ (sizes_of c.args.room.now).used
+abbrev After-load_sizes-sizes : Type 0
+After-load_sizes-sizes = place.After-load_sizes tie.the-claims tie.handed_pre tie.handed_post
+
+in_use : (c : After-load_sizes-sizes) → c.load_sizes-sizes.result.used ≡ (sizes_of c.args.room.now).used
 in_use c = ap (λ s. s.used) c.load_sizes-sizes.ensures
 
-few : (c : goal.After-load_sizes-sizes) → c.load_sizes-sizes.result.used ≤ most_rows
+few : (c : After-load_sizes-sizes) → c.load_sizes-sizes.result.used ≤ most_rows
 few c = omega (arith, in_use c, used-most c.args.room.now c.requires.ledger c.requires.is_room)
 
 pub returns-then-longest-size : goal.returns-then-longest-size
 returns-then-longest-size c L room =
-    plenty L c.args.size c.args.room.now room (omega (arith, in_use c.before, c.if-longest-size.true))
+    plenty L c.args.size c.args.room.now room (omega (arith, in_use c.before.before, c.if-longest-size.true))
 
 pub overflow_add-result : goal.overflow_add-result
 overflow_add-result c =
@@ -30,7 +35,7 @@ pub returns : goal.returns
 returns c L room = measured L c.args.size c.rows_size.result (c.rows_size.ensures L room)
 
 pub overflow_mul-longest : goal.overflow_mul-longest
-overflow_mul-longest c = record { fits = omega (arith, few c) }
+overflow_mul-longest c = record { fits = omega (arith, few c.before) }
 
 pub overflow_add-longest : goal.overflow_add-longest
-overflow_add-longest c = record { fits = omega (arith, few c) }
+overflow_add-longest c = record { fits = omega (arith, few c.before) }

@@ -11,9 +11,14 @@ use Rattle.records.specs.declared.Place.{Place}
 use Rattle.snapshot_writer.specs.Rows.{amounts_bytes, row_in_place}
 use Rattle.records.proofs.Rows.{two-halves}
 use borrow.Author.Rules.{rules}
+use Rattle.snapshot_writer.proofs.write_row.Lts as place
+use Rattle.snapshot_writer.proofs.write_row.Tie as tie
 use Rattle.snapshot_writer.proofs.write_row.Goals as goal
 
-named : (c : goal.After-write_name-arg-1) → let a = c.args in length (take (1 + a.place.name.length) a.part.now) ≡ 1 + a.place.name.length
+abbrev After-write_name-arg-1 : Type 0
+After-write_name-arg-1 = place.After-write_name-arg tie.the-claims tie.handed_pre tie.handed_post
+
+named : (c : After-write_name-arg-1) → let a = c.args in length (take (1 + a.place.name.length) a.part.now) ≡ 1 + a.place.name.length
 named c =
     length-take-le (1 + c.args.place.name.length) c.args.part.now (omega (arith, c.requires.0))
 
@@ -26,7 +31,7 @@ returns c =
     let p = c.args.place in
     let name : _ ≡ name_bytes (spelled p.name) = c.write_name.ensures in
     let amounts : _ ≡ amounts_bytes p = c.write_amounts.ensures in
-    let size : length c.write_name.new.part ≡ 1 + p.name.length = c.write_name.auto.0 ∙ named c.before.before.before.before.before.before.before in
+    let size : length c.write_name.new.part ≡ 1 + p.name.length = c.write_name.auto.0 ∙ named c.before.before.before.before.before.before.before.before in
     two-halves (1 + p.name.length) c.args.part.now c.write_name.new.part c.write_amounts.new.part size
     ∙ ap₂ ◌++◌ name amounts
     ∙ row-bytes p

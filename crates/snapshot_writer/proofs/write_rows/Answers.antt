@@ -11,17 +11,25 @@ use Rattle.records.specs.Records.{sizes_of}
 use Rattle.snapshot_writer.specs.Rows.{WritesRows}
 use Rattle.snapshot_writer.specs.Output.{row_of_place, row_size}
 use Rattle.snapshot_writer.proofs.PlaceRows.{rows_to, none_written, count_most, used-most, place-in-room, rows_next, size-next, rows_all, size-within}
+use Rattle.snapshot_writer.proofs.write_rows.Lts as place
+use Rattle.snapshot_writer.proofs.write_rows.Tie as tie
 use Rattle.snapshot_writer.proofs.write_rows.Goals as goal
 
-in_use : (c : goal.After-load_sizes-sizes) → c.load_sizes-sizes.result.used ≡ (sizes_of c.args.room.now).used
+abbrev After-load_sizes-sizes : Type 0
+After-load_sizes-sizes = place.After-load_sizes tie.the-claims tie.handed_pre tie.handed_post goal.the-invariant-loop-i goal.the-decreases-loop-i
+
+abbrev In-loop-i : Type 0
+In-loop-i = place.In-loop tie.the-claims tie.handed_pre tie.handed_post goal.the-invariant-loop-i goal.the-decreases-loop-i
+
+in_use : (c : After-load_sizes-sizes) → c.load_sizes-sizes.result.used ≡ (sizes_of c.args.room.now).used
 in_use c = ap (λ s. s.used) c.load_sizes-sizes.ensures
 
-below : (c : goal.In-loop-i) → c.loop-i.i < (sizes_of c.args.room.now).used
+below : (c : In-loop-i) → c.loop-i.i < (sizes_of c.args.room.now).used
 below c = omega (arith, in_use c.before.before, c.loop-i-test.true)
 
 pub load_place-requires : goal.load_place-requires
 load_place-requires c =
-    (place-in-room c.args.room.now c.requires.0.ledger c.requires.0.is_room c.loop-i.i (below c.before)).0
+    (place-in-room c.args.room.now c.requires.0.ledger c.requires.0.is_room c.loop-i.i (below c.before.before)).0
 
 pub append_account-extent-requires : goal.append_account-extent-requires
 append_account-extent-requires c =
@@ -29,7 +37,7 @@ append_account-extent-requires c =
     let L = c.requires.0.ledger in
     let r = c.requires.0.is_room in
     let i = c.loop-i.i in
-    let within = below c.before.before in
+    let within = below c.before.before.before in
     let written = c.loop-i.invariant.2 in (
       omega (arith, written.end, size-next room L r i within, ap row_size c.load_place.ensures, size-within room L r (i + 1), c.requires.1 L r, c.loop-i.invariant.1),
       (omega (arith, (place-in-room room L r i within).1, ap (λ p. p.name.length) c.load_place.ensures), omega (arith, written.rows, count_most room i, used-most room L r)),
@@ -38,7 +46,7 @@ append_account-extent-requires c =
 pub loop-i-preserved : goal.loop-i-preserved
 loop-i-preserved c =
     let room = c.args.room.now in
-    let next = rows_next room c.requires.0.ledger c.requires.0.is_room c.loop-i.i (below c.before.before.before.before.before) in (
+    let next = rows_next room c.requires.0.ledger c.requires.0.is_room c.loop-i.i (below c.before.before.before.before.before.before) in (
       omega (arith, c.loop-i-test.true),
       c.append_account-extent.auto.0 ∙ c.loop-i.invariant.1,
       subst (λ (rs : List Row). WritesRows rs c.args.output.now c.append_account-extent.new.output c.append_account-extent.result)
@@ -49,7 +57,7 @@ loop-i-preserved c =
 pub returns : goal.returns
 returns c L room =
     subst (λ (rs : List Row). WritesRows rs c.args.output.now c.loop-i.output c.loop-i.extent)
-    (rows_all c.args.room.now L room c.loop-i.i (omega (arith, in_use c.before.before, c.loop-i-test.false))) c.loop-i.invariant.2
+    (rows_all c.args.room.now L room c.loop-i.i (omega (arith, in_use c.before.before.before, c.loop-i-test.false))) c.loop-i.invariant.2
 
 pub loop-i-init : goal.loop-i-init
 loop-i-init c = (omega arith, refl, none_written c.args.room.now c.args.output.now)

@@ -7,7 +7,12 @@ use Rattle.moves.proofs.Cases.{AmountsAddUp}
 use Rattle.room.specs.Seats.{seat_of_place}
 use Rattle.soundness.proofs.Deciding.{refuse, refused, accepted, by_equal, by-unequal}
 use Rattle.soundness.proofs.Seats.{flag-is-one, no-amounts, a-limit, sound-adds-up, held-with-account, held-without-account}
+use Rattle.soundness.proofs.amounts_sound.Lts as place
+use Rattle.soundness.proofs.amounts_sound.Tie as tie
 use Rattle.soundness.proofs.amounts_sound.Goals as goal
+
+abbrev Else-not-adds_up : Type 0
+Else-not-adds_up = place.Else2 tie.the-claims tie.handed_pre tie.handed_post
 
 pub returns-then-place-gt-M : goal.returns-then-place-gt-M
 unfolding M
@@ -16,7 +21,7 @@ returns-then-place-gt-M c = refuse (λ h. omega (arith, h.0.limit))
 pub returns-then-not-adds_up : goal.returns-then-not-adds_up
 returns-then-not-adds_up c = refuse (λ h. refused c.adds_up.ensures c.if-not-adds_up.true-raw (sound-adds-up _ h.0))
 
-add-up : (c : goal.Else-not-adds_up) → AmountsAddUp (seat_of_place c.args.place)
+add-up : (c : Else-not-adds_up) → AmountsAddUp (seat_of_place c.args.place)
 add-up c = accepted c.adds_up.ensures c.if-not-adds_up.false-raw
 
 pub returns-then-place-ne0 : goal.returns-then-place-ne0

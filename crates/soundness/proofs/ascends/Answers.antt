@@ -12,7 +12,15 @@ use Rattle.records.specs.declared.Place.{Place}
 use Rattle.soundness.specs.Facts.{Decides}
 use Rattle.soundness.proofs.NameBytes.{name-at-bytes}
 use Rattle.soundness.proofs.Deciding.{accept, refuse, by_answer}
+use Rattle.soundness.proofs.ascends.Lts as place
+use Rattle.soundness.proofs.ascends.Tie as tie
 use Rattle.soundness.proofs.ascends.Goals as goal
+
+abbrev Start : Type 0
+Start = place.Start tie.the-claims tie.handed_pre tie.handed_post
+
+abbrev After-later-1 : Type 0
+After-later-1 = place.After-later tie.the-claims tie.handed_pre tie.handed_post
 
 before-decides : (o : Ordering) → Decides (o ≡ Ordering.lt) (is_before o)
 before-decides o = by_order (λ p. Decides (p ≡ Ordering.lt) (is_before p)) o (λ _. accept refl) (λ _. refuse (λ e. absurd (let z : ◌≡◌ {A = ℕ} 0 1 = cc in omega arith))) (λ _. refuse (λ e. absurd (let z : ◌≡◌ {A = ℕ} 0 1 = cc in omega arith)))
@@ -20,7 +28,7 @@ before-decides o = by_order (λ p. Decides (p ≡ Ordering.lt) (is_before p)) o 
 pub returns-then-i-eq0 : goal.returns-then-i-eq0
 returns-then-i-eq0 c = accept (λ h. absurd (omega arith))
 
-abbrev start : goal.After-later-1 → goal.Start
+abbrev start : After-later-1 → Start
 start c = c.before.before.before.before.before.before
 
 -- a name that was loaded is stored and of bytes as the one in the room is
@@ -29,15 +37,14 @@ loaded p q e stored bytes = subst (λ (r : Place). IsStored r.name × All IsByte
 
 pub precedes-requires : goal.precedes-requires
 precedes-requires c =
-    let s = start c in
+    let s = start c.before in
     let room = s.args.room.now in
     let bytes : All IsByte room = all-bytes room c.shared_slice_known-1.given in
-    let before = loaded _ _ c.load_place-before.ensures (s.requires.1.0 (omega (arith, c.if-i-eq0.false))) (name-at-bytes (s.args.i - 1) room bytes) in
-    let here = loaded _ _ c.load_place-here.ensures s.requires.1.1 (name-at-bytes s.args.i room bytes) in
-    ((before.0, here.0), (before.1, here.1))
+    let before = loaded _ _ c.load_place-before.ensures (s.requires.before.0 (omega (arith, c.if-i-eq0.false))) (name-at-bytes (s.args.i - 1) room bytes) in
+    let here = loaded _ _ c.load_place-here.ensures s.requires.before.1 (name-at-bytes s.args.i room bytes) in record { stored = (before.0, here.0); bytes = (before.1, here.1) }
 
 pub returns : goal.returns
 returns c =
-    let s = start c.before in
+    let s = start c.before.before in
     let answer = c.precedes.ensures ∙ ap₂ (λ (p q : Place). is_before (order (spelled p.name) (spelled q.name))) c.load_place-before.ensures c.load_place-here.ensures in
     by_answer (subst (Decides _) (sym answer) (before-decides _)) (λ h _. h) (λ h. h (omega (arith, c.if-i-eq0.false)))

@@ -5,7 +5,12 @@ use borrow.Author.Rules.{rules}
 use lib.ListN.{length}
 use Rattle.soundness.specs.Facts.{SizesSound, HeadSound}
 use Rattle.soundness.proofs.Deciding.{refuse, refused, accepted, by_answer}
+use Rattle.soundness.proofs.check.Lts as place
+use Rattle.soundness.proofs.check.Tie as tie
 use Rattle.soundness.proofs.check.Goals as goal
+
+abbrev Else-not-head_sound : Type 0
+Else-not-head_sound = place.Else3 tie.the-claims tie.handed_pre tie.handed_post
 
 pub returns-then-room-lt-HEAD_SIZE : goal.returns-then-room-lt-HEAD_SIZE
 returns-then-room-lt-HEAD_SIZE c = refuse (λ h. omega (arith, h.long))
@@ -18,11 +23,11 @@ pub returns-then-not-head_sound : goal.returns-then-not-head_sound
 returns-then-not-head_sound c = refuse (λ h. refused c.head_sound.ensures c.if-not-head_sound.true-raw (subst HeadSound (sym c.load_head-head.ensures) h.head))
 
 -- what the tests before the tables showed, of what was loaded
-sized : (c : goal.Else-not-head_sound) → SizesSound c.load_sizes-sizes.result (length c.args.room.now)
+sized : (c : Else-not-head_sound) → SizesSound c.load_sizes-sizes.result (length c.args.room.now)
 sized c = accepted c.sizes_sound.ensures c.if-not-sizes_sound.false-raw
 
 pub tables_sound-requires : goal.tables_sound-requires
-tables_sound-requires c = ((c.load_sizes-sizes.ensures, c.load_head-head.ensures), sized c)
+tables_sound-requires c = record { read = (c.load_sizes-sizes.ensures, c.load_head-head.ensures); sized = sized c.before }
 
 pub returns : goal.returns
 returns c =
@@ -30,7 +35,7 @@ returns c =
     by_answer c.tables_sound.ensures
     (λ tables. record {
       long = omega arith;
-      c = subst (λ s. SizesSound s (length room)) c.load_sizes-sizes.ensures (sized c.before);
+      c = subst (λ s. SizesSound s (length room)) c.load_sizes-sizes.ensures (sized c.before.before);
       c = subst HeadSound c.load_head-head.ensures (accepted c.head_sound.ensures c.if-not-head_sound.false-raw);
       tables = tables;
     })

@@ -10,5 +10,4 @@ use Rattle.soundness.proofs.name_part.Goals as goal
 pub returns : goal.returns
 returns c =
     let room = c.args.room.now in
-    let from = name_bytes_start c.args.i + 8 * c.args.part in
-    (rw span (part-stands c.args.i room c.args.part c.requires.1), rw span (row-length 8 from room (omega arith)))
+    let from = name_bytes_start c.args.i + 8 * c.args.part in record { stands = rw span (part-stands c.args.i room c.args.part c.requires.third); width = rw span (row-length 8 from room (omega arith)) }

@@ -21,22 +21,33 @@ use Rattle.soundness.proofs.ClearBytes.{small-clear, clear-small, part-clear, cl
 use Rattle.soundness.proofs.Deciding.{accept, refuse, by_answer, refused, accepted}
 use Rattle.soundness.proofs.NameBytes.{name-at-bytes}
 use Rattle.soundness.proofs.Standing.{bytes-width}
+use Rattle.soundness.proofs.name_sound.Lts as place
+use Rattle.soundness.proofs.name_sound.Tie as tie
 use Rattle.soundness.proofs.name_sound.Goals as goal
 
-abbrev entry : goal.At-loop-part → goal.Start
+abbrev Start : Type 0
+Start = place.Start tie.the-claims tie.handed_pre tie.handed_post goal.the-invariant-loop-part goal.the-decreases-loop-part
+
+abbrev At-loop-part : Type 0
+At-loop-part = place.At-loop tie.the-claims tie.handed_pre tie.handed_post goal.the-invariant-loop-part goal.the-decreases-loop-part
+
+abbrev After-is_clear : Type 0
+After-is_clear = place.After-is_clear tie.the-claims tie.handed_pre tie.handed_post goal.the-invariant-loop-part goal.the-decreases-loop-part
+
+abbrev entry : At-loop-part → Start
 entry c = c.before.before.before.before
 
-abbrev Bytes : goal.At-loop-part → List ℕ
+abbrev Bytes : At-loop-part → List ℕ
 Bytes c = (place_at (entry c).args.i (entry c).args.room.now).name.bytes
 
 -- the part that was read, and how its bytes past the length are asked
-read : (c : goal.After-is_clear) → let n = c.name_length-length.result in
+read : (c : After-is_clear) → let n = c.name_length-length.result in
     Decides (ClearFrom (n - 8 * c.loop-part.part) (row 8 (8 * c.loop-part.part) (Bytes c.before.before.before.before.before))) c.is_clear.result
 read c =
     let room = (entry c.before.before.before.before.before).args.room.now in
     let n = c.name_length-length.result - 8 * c.loop-part.part in
     let part = row 8 (8 * c.loop-part.part) (Bytes c.before.before.before.before.before) in
-    let word = c.read8-word.ensures ∙ ap little_number c.name_part.ensures.0 in
+    let word = c.read8-word.ensures ∙ ap little_number c.name_part.ensures.stands in
     let asked : Decides (little_number part < 2 ^ (8 * n)) c.is_clear.result =
     subst (λ t. Decides t c.is_clear.result) (ap₂ (λ w f. w < 2 ^ (8 * f)) word c.less.ensures) c.is_clear.ensures in
     let bytes : All IsByte part =
@@ -73,7 +84,7 @@ is_clear-requires c = search rules
 pub returns-then-not-is_clear : goal.returns-then-not-is_clear
 returns-then-not-is_clear c =
     let length = c.name_length-length.ensures in
-    refuse (λ h. refused (read c.before) c.if-not-is_clear.true-raw (part-clear 8 (8 * c.loop-part.part) _ (Bytes c.before.before.before.before.before.before) (subst (λ n. ClearFrom n (Bytes c.before.before.before.before.before.before)) (sym length) h.clear)))
+    refuse (λ h. refused (read c.before.before) c.if-not-is_clear.true-raw (part-clear 8 (8 * c.loop-part.part) _ (Bytes c.before.before.before.before.before.before.before) (subst (λ n. ClearFrom n (Bytes c.before.before.before.before.before.before.before)) (sym length) h.clear)))
 
 pub overflow_add-part : goal.overflow_add-part
 overflow_add-part c = search rules
@@ -84,18 +95,18 @@ loop-part-smaller c = search rules
 pub loop-part-preserved : goal.loop-part-preserved
 loop-part-preserved c =
     let p = c.loop-part.part in
-    let clear = accepted (read c.before) c.if-not-is_clear.false-raw in (
+    let clear = accepted (read c.before.before) c.if-not-is_clear.false-raw in (
       omega arith,
-      λ k below from. ⊎_elim (λ low. c.loop-part.invariant.1 k low from) (λ high. clear-part 8 (8 * p) _ (Bytes c.before.before.before.before.before.before) clear k high (omega arith) from) (less-or-not k (8 * p)),
+      λ k below from. ⊎_elim (λ low. c.loop-part.invariant.1 k low from) (λ high. clear-part 8 (8 * p) _ (Bytes c.before.before.before.before.before.before.before) clear k high (omega arith) from) (less-or-not k (8 * p)),
     )
 
 pub returns : goal.returns
 returns c =
     let length = c.name_length-length.ensures in
-    let width = bytes-width (entry c.before).args.i (entry c.before).args.room.now (entry c.before).requires in
+    let width = bytes-width (entry c.before.before).args.i (entry c.before.before).args.room.now (entry c.before.before).requires in
     accept (record {
       fits = omega (arith, length);
       width = width;
       clear = λ k from. ⊎_elim (λ below. c.loop-part.invariant.1 k (omega arith) (omega (arith, length)))
-          (λ past. get_or-eq_default (Bytes c.before) 0 (omega (arith, width))) (less-or-not k longest_name);
+          (λ past. get_or-eq_default (Bytes c.before.before) 0 (omega (arith, width))) (less-or-not k longest_name);
     })

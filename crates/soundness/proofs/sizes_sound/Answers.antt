@@ -3,7 +3,12 @@ use native.Mathlib.Omega.{arith}
 use borrow.Author.Rules.{rules}
 use Rattle.rules.specs.RoomAndSoundLedger.{InRange, most_names, most_reservations}
 use Rattle.soundness.proofs.Deciding.{refuse, refused, accepted, by_equal}
+use Rattle.soundness.proofs.sizes_sound.Lts as place
+use Rattle.soundness.proofs.sizes_sound.Tie as tie
 use Rattle.soundness.proofs.sizes_sound.Goals as goal
+
+abbrev Else-sizes-2 : Type 0
+Else-sizes-2 = place.Else4 tie.the-claims tie.handed_pre tie.handed_post
 
 pub returns-then-not-in_range : goal.returns-then-not-in_range
 returns-then-not-in_range c = refuse (λ h. refused c.in_range.ensures c.if-not-in_range.true-raw h.names)
@@ -17,7 +22,7 @@ returns-then-sizes c = refuse (λ h. omega (arith, h.used))
 pub returns-then-sizes-2 : goal.returns-then-sizes-2
 returns-then-sizes-2 c = refuse (λ h. omega (arith, h.live))
 
-ranges : (c : goal.Else-sizes-2) → let s = c.args.sizes in InRange 1 most_names s.names × InRange 1 most_reservations s.reservations
+ranges : (c : Else-sizes-2) → let s = c.args.sizes in InRange 1 most_names s.names × InRange 1 most_reservations s.reservations
 ranges c =
     (accepted c.in_range.ensures c.if-not-in_range.false-raw, accepted c.in_range-2.ensures c.if-not-in_range-2.false-raw)
 

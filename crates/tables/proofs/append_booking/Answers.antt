@@ -11,16 +11,21 @@ use Rattle.room.specs.Contents.{contents_of, base_of, appended_booking}
 use Rattle.tables.specs.Steps.{on_bookings}
 use Rattle.tables.proofs.Stores.{Loaded, loaded, stays, counted, booking-replaced}
 use Rattle.tables.proofs.Whole.{appended}
+use Rattle.tables.proofs.append_booking.Lts as place
+use Rattle.tables.proofs.append_booking.Tie as tie
 use Rattle.tables.proofs.append_booking.Goals as goal
 
-sizes : (c : goal.After-load_sizes-sizes) → Loaded c.args.room.now c.load_sizes-sizes.result
+abbrev After-load_sizes-sizes : Type 0
+After-load_sizes-sizes = place.After-load_sizes tie.the-claims tie.handed_pre tie.handed_post
+
+sizes : (c : After-load_sizes-sizes) → Loaded c.args.room.now c.load_sizes-sizes.result
 sizes c = loaded c.args.room.now c.load_sizes-sizes.result c.requires.0 c.load_sizes-sizes.ensures
 
 pub returns : goal.returns
 returns c =
     let d = c in
     let t = d.load_sizes-sizes.result in
-    let z = sizes d.before.before.before.before.before.before.before.before.before in
+    let z = sizes d.before.before.before.before.before.before.before.before.before.before in
     let booked = c.store_booking in
     let last = c.store_counts in
     let room = d.args.room.now in

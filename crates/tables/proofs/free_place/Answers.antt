@@ -8,9 +8,17 @@ use Rattle.tables.specs.Steps.{Becomes, on_places, moved_down}
 use Rattle.tables.proofs.Moving.{closed-set}
 use Rattle.tables.proofs.Stores.{Loaded, loaded, for-bookings, finished, places-length, place-replaced}
 use Rattle.tables.proofs.Whole.{freed}
+use Rattle.tables.proofs.free_place.Lts as place
+use Rattle.tables.proofs.free_place.Tie as tie
 use Rattle.tables.proofs.free_place.Goals as goal
 
-sizes : (c : goal.After-load_sizes-sizes) → Loaded c.args.room.now c.load_sizes-sizes.result
+abbrev After-load_sizes-sizes : Type 0
+After-load_sizes-sizes = place.After-load_sizes tie.the-claims tie.handed_pre tie.handed_post
+
+abbrev After-store_place : Type 0
+After-store_place = place.After-store_place tie.the-claims tie.handed_pre tie.handed_post
+
+sizes : (c : After-load_sizes-sizes) → Loaded c.args.room.now c.load_sizes-sizes.result
 sizes c = loaded c.args.room.now c.load_sizes-sizes.result c.requires.0 c.load_sizes-sizes.ensures
 
 pub move_places_down-requires : goal.move_places_down-requires
@@ -18,7 +26,7 @@ move_places_down-requires c =
     let z = sizes c.before in
     (c.requires.0, omega arith, omega arith)
 
-emptied : (c : goal.After-store_place)
+emptied : (c : After-store_place)
     → Becomes (on_places (closed c.args.i c.load_sizes-sizes.result.used empty_place)) c.args.room.now c.store_place.new.room
 emptied c =
     let used = c.load_sizes-sizes.result.used in
@@ -41,8 +49,8 @@ returns c =
     let owners = c.lower_owners in
     let last = c.store_counts in
     let i = c.args.i in
-    finished (closed i t.used empty_place) c.args.room.now c.store_place.new.room c.requires.0 (emptied c.before.before.before.before.before.before.before.before.before.before.before) (renumbered (lowered i) t.live) (freed_place i) owners.new.0 last.new.0
-    (t.used - 1) t.live owners.ensures last.ensures (freed (contents_of c.args.room.now) t (sizes c.before.before.before.before.before.before.before.before.before.before.before.before.before.before.before.before.before).sizes i)
+    finished (closed i t.used empty_place) c.args.room.now c.store_place.new.room c.requires.0 (emptied c.before.before.before.before.before.before.before.before.before.before.before.before) (renumbered (lowered i) t.live) (freed_place i) owners.new.0 last.new.0
+    (t.used - 1) t.live owners.ensures last.ensures (freed (contents_of c.args.room.now) t (sizes c.before.before.before.before.before.before.before.before.before.before.before.before.before.before.before.before.before.before).sizes i)
 
 pub overflow_mul-base : goal.overflow_mul-base
 overflow_mul-base c = let z = sizes c in omega arith

@@ -10,9 +10,17 @@ use Rattle.tables.specs.Steps.{Becomes, on_places, moved_up, CanRise}
 use Rattle.tables.proofs.Moving.{opened-set}
 use Rattle.tables.proofs.Stores.{Loaded, loaded, for-bookings, finished, places-length, place-replaced}
 use Rattle.tables.proofs.Whole.{inserted}
+use Rattle.tables.proofs.insert_place.Lts as place
+use Rattle.tables.proofs.insert_place.Tie as tie
 use Rattle.tables.proofs.insert_place.Goals as goal
 
-sizes : (c : goal.After-load_sizes-sizes) → Loaded c.args.room.now c.load_sizes-sizes.result
+abbrev After-load_sizes-sizes : Type 0
+After-load_sizes-sizes = place.After-load_sizes tie.the-claims tie.handed_pre tie.handed_post
+
+abbrev After-store_place : Type 0
+After-store_place = place.After-store_place tie.the-claims tie.handed_pre tie.handed_post
+
+sizes : (c : After-load_sizes-sizes) → Loaded c.args.room.now c.load_sizes-sizes.result
 sizes c = loaded c.args.room.now c.load_sizes-sizes.result c.requires.0 c.load_sizes-sizes.ensures
 
 pub move_places_up-requires : goal.move_places_up-requires
@@ -20,7 +28,7 @@ move_places_up-requires c =
     let z = sizes c.before in
     (c.requires.0, omega arith, omega arith)
 
-placed : (c : goal.After-store_place)
+placed : (c : After-store_place)
     → Becomes (on_places (opened c.args.i c.load_sizes-sizes.result.used c.args.place)) c.args.room.now c.store_place.new.room
 placed c =
     let used = c.load_sizes-sizes.result.used in
@@ -48,8 +56,8 @@ returns c =
     let last = c.store_counts in
     let i = c.args.i in
     let place = c.args.place in
-    finished (opened i t.used place) c.args.room.now c.store_place.new.room c.requires.0 (placed c.before.before.before.before.before.before.before.before.before.before.before) (renumbered (raised i) t.live) (inserted_place i place) owners.new.0 last.new.0
-    (t.used + 1) t.live owners.ensures last.ensures (inserted (contents_of c.args.room.now) t (sizes c.before.before.before.before.before.before.before.before.before.before.before.before.before.before.before.before.before).sizes i place)
+    finished (opened i t.used place) c.args.room.now c.store_place.new.room c.requires.0 (placed c.before.before.before.before.before.before.before.before.before.before.before.before) (renumbered (raised i) t.live) (inserted_place i place) owners.new.0 last.new.0
+    (t.used + 1) t.live owners.ensures last.ensures (inserted (contents_of c.args.room.now) t (sizes c.before.before.before.before.before.before.before.before.before.before.before.before.before.before.before.before.before.before).sizes i place)
 
 pub overflow_mul-base : goal.overflow_mul-base
 overflow_mul-base c = let z = sizes c in omega arith

@@ -10,7 +10,12 @@ use Rattle.room.specs.Contents.{contents_of, empty_booking, lowered, renumbered}
 use Rattle.tables.specs.Steps.{Becomes, on_bookings}
 use Rattle.tables.proofs.Moving.{renumbered-none, lowered-behind, lowered-up-to}
 use Rattle.tables.proofs.Stores.{SizedBy, sized-by, owner-fits, owner-read, owner-stored, owner-kept}
+use Rattle.tables.proofs.lower_owners.Lts as place
+use Rattle.tables.proofs.lower_owners.Tie as tie
 use Rattle.tables.proofs.lower_owners.Goals as goal
+
+abbrev After-load_booking-booking : Type 0
+After-load_booking-booking = place.After-load_booking tie.the-claims tie.handed_pre tie.handed_post goal.the-invariant-loop-j goal.the-decreases-loop-j
 
 pub loop-j-init : goal.loop-j-init
 loop-j-init c =
@@ -18,7 +23,7 @@ loop-j-init c =
     (omega arith, sized-by room c.requires.0, (refl, ap (λ bs. on_bookings (λ _. bs) (contents_of room)) (renumbered-none (lowered c.args.i) (contents_of room).bookings)))
 
 -- the booking that is loaded is as it was when the loop began
-loaded : (c : goal.After-load_booking-booking)
+loaded : (c : After-load_booking-booking)
     → let room = c.args.room.now in
     c.load_booking-booking.result ≡ get_or (contents_of room).bookings c.loop-j.j empty_booking
 loaded c =
@@ -29,8 +34,7 @@ pub store_booking-requires : goal.store_booking-requires
 store_booking-requires c =
     let room = c.args.room.now in
     let e = ap (λ b. b.owner) c.with_owner.ensures in
-    let fits = owner-fits room c.requires.0 (all-bytes room c.slice_known-1.given) c.loop-j.j empty_booking (omega arith) in
-    (omega arith, omega (arith, e, ap (λ b. b.owner) (loaded c.before.before.before), fits))
+    let fits = owner-fits room c.requires.0 (all-bytes room c.slice_known-1.given) c.loop-j.j empty_booking (omega arith) in record { within = omega arith; owner = omega (arith, e, ap (λ b. b.owner) (loaded c.before.before.before), fits) }
 
 pub loop-j-preserved : goal.loop-j-preserved
 loop-j-preserved c =

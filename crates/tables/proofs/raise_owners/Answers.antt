@@ -9,7 +9,12 @@ use Rattle.room.specs.Contents.{contents_of, empty_booking, raised, renumbered}
 use Rattle.tables.specs.Steps.{Becomes, on_bookings, CanRise}
 use Rattle.tables.proofs.Moving.{all-taken, renumbered-none, raised-from, raised-before}
 use Rattle.tables.proofs.Stores.{SizedBy, sized-by, bookings-length, owner-read, owner-stored, owner-kept}
+use Rattle.tables.proofs.raise_owners.Lts as place
+use Rattle.tables.proofs.raise_owners.Tie as tie
 use Rattle.tables.proofs.raise_owners.Goals as goal
+
+abbrev After-load_booking-booking : Type 0
+After-load_booking-booking = place.After-load_booking tie.the-claims tie.handed_pre tie.handed_post goal.the-invariant-loop-j goal.the-decreases-loop-j
 
 pub loop-j-init : goal.loop-j-init
 loop-j-init c =
@@ -17,22 +22,21 @@ loop-j-init c =
     (omega arith, sized-by room c.requires.0, (refl, ap (λ bs. on_bookings (λ _. bs) (contents_of room)) (renumbered-none (raised c.args.i) (contents_of room).bookings)))
 
 -- the booking that is loaded is as it was when the loop began
-loaded : (c : goal.After-load_booking-booking)
+loaded : (c : After-load_booking-booking)
     → let room = c.args.room.now in
     c.load_booking-booking.result ≡ get_or (contents_of room).bookings c.loop-j.j empty_booking
 loaded c =
     let room = c.args.room.now in
     owner-read room c.loop-j.room (raised c.args.i) c.loop-j.j c.loop-j.invariant.2 empty_booking (omega arith) c.args.base c.requires.1 _ c.load_booking-booking.ensures
 
-small : (c : goal.After-load_booking-booking) → CanRise c.load_booking-booking.result
+small : (c : After-load_booking-booking) → CanRise c.load_booking-booking.result
 small c =
     let bs = (contents_of c.args.room.now).bookings in
     rw (loaded c) (all-taken CanRise c.args.live bs c.loop-j.j empty_booking c.requires.3 (omega arith) (rw bookings-length (omega arith)))
 
 pub store_booking-requires : goal.store_booking-requires
 store_booking-requires c =
-    let e = ap (λ b. b.owner) c.with_owner.ensures in
-    (omega arith, omega (arith, e, small c.before.before.before))
+    let e = ap (λ b. b.owner) c.with_owner.ensures in record { within = omega arith; owner = omega (arith, e, small c.before.before.before) }
 
 pub loop-j-preserved : goal.loop-j-preserved
 loop-j-preserved c =

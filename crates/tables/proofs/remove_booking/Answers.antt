@@ -9,9 +9,14 @@ use Rattle.tables.specs.Steps.{on_bookings, moved_down}
 use Rattle.tables.proofs.Moving.{closed-set}
 use Rattle.tables.proofs.Stores.{Loaded, loaded, stays, counted, bookings-length, booking-replaced}
 use Rattle.tables.proofs.Whole.{removed}
+use Rattle.tables.proofs.remove_booking.Lts as place
+use Rattle.tables.proofs.remove_booking.Tie as tie
 use Rattle.tables.proofs.remove_booking.Goals as goal
 
-sizes : (c : goal.After-load_sizes-sizes) → Loaded c.args.room.now c.load_sizes-sizes.result
+abbrev After-load_sizes-sizes : Type 0
+After-load_sizes-sizes = place.After-load_sizes tie.the-claims tie.handed_pre tie.handed_post
+
+sizes : (c : After-load_sizes-sizes) → Loaded c.args.room.now c.load_sizes-sizes.result
 sizes c = loaded c.args.room.now c.load_sizes-sizes.result c.requires.0 c.load_sizes-sizes.ensures
 
 pub move_bookings_down-requires : goal.move_bookings_down-requires
@@ -23,7 +28,7 @@ pub returns : goal.returns
 returns c =
     let d = c in
     let t = d.load_sizes-sizes.result in
-    let z = sizes d.before.before.before.before.before.before.before.before.before.before.before.before.before in
+    let z = sizes d.before.before.before.before.before.before.before.before.before.before.before.before.before.before in
     let moved = c.move_bookings_down in
     let emptied = c.store_booking in
     let last = c.store_counts in

@@ -12,9 +12,14 @@ use Rattle.totals.specs.declared.Fitted.TheVariants.{Fits}
 use Rattle.totals.specs.Totals.{value_of, fitted}
 use Rattle.totals.proofs.Carrying.{words}
 use Rattle.totals.proofs.Fitting.{natural-fits, natural-outside, negative-outside, negative_fits, far-outside}
+use Rattle.totals.proofs.fit.Lts as place
+use Rattle.totals.proofs.fit.Tie as tie
 use Rattle.totals.proofs.fit.Goals as goal
 
-module _ (c : goal.After-struct_told-1) where
+abbrev After-struct_told-1 : Type 0
+After-struct_told-1 = place.After-struct_told tie.the-claims tie.handed_pre tie.handed_post
+
+module _ (c : After-struct_told-1) where
   abbrev total : Total
   total = c.args.total
 

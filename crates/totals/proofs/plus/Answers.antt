@@ -13,9 +13,20 @@ use Rattle.numbers.proofs.Amounts.{held, held-is}
 use Rattle.big_endian.proofs.TwosComplement.{not_negative, negative}
 use Rattle.totals.specs.Totals.{value_of}
 use Rattle.totals.proofs.Carrying.{words, added, carried, lifted-word, lowered, borrowed, moved_up, moved_down}
+use Rattle.totals.proofs.plus.Lts as place
+use Rattle.totals.proofs.plus.Tie as tie
 use Rattle.totals.proofs.plus.Goals as goal
 
-module _ (c : goal.After-word_of-word) where
+abbrev After-word_of-word : Type 0
+After-word_of-word = place.After-word_of tie.the-claims tie.handed_pre tie.handed_post tie.handed_clauses
+
+abbrev Then-x-ge0 : Type 0
+Then-x-ge0 = place.Then1 tie.the-claims tie.handed_pre tie.handed_post tie.handed_clauses
+
+abbrev Else-x-ge0 : Type 0
+Else-x-ge0 = place.Else1 tie.the-claims tie.handed_pre tie.handed_post tie.handed_clauses
+
+module _ (c : After-word_of-word) where
   abbrev high : ℤ
   high = c.args.total.high
 
@@ -39,7 +50,7 @@ module _ (c : goal.After-word_of-word) where
   amount-small = c.struct_told-2-1.given.0.1
 
   word_small : word < 2 ^ 64
-  word_small = omega (arith, c.word_of-word.type-inv)
+  word_small = omega (arith, c.word_of-word.type_inv)
 
   sign-is : (sign : Bool) → le_z (pos 0) (held amount) ≡ sign → le_z (pos 0) amount ≡ sign
   sign-is sign e = ap (le_z (pos 0)) (sym (held-is amount amount-small)) ∙ e
@@ -50,7 +61,7 @@ module _ (c : goal.After-word_of-word) where
 
 -- ── an amount not below 0 ──────────────────────────────────────────────────────────────────────
 
-by-natural : (c : goal.Then-x-ge0) → value_of (words (high c.before) (low c.before)) +ℤ pos (word c.before) ≡ value_of (words (high c.before) (low c.before)) +ℤ amount c.before
+by-natural : (c : Then-x-ge0) → value_of (words (high c.before) (low c.before)) +ℤ pos (word c.before) ≡ value_of (words (high c.before) (low c.before)) +ℤ amount c.before
 by-natural c =
     let natural : amount c.before ≡ pos (mag (amount c.before)) = not_negative (amount c.before) (sign-is c.before true c.if-x-ge0.true) in
     let same : pos (word c.before) ≡ amount c.before = ap pos c.word_of-word.ensures ∙ ap (λ z. pos (twos_complement z)) natural ∙ sym natural in
@@ -68,7 +79,7 @@ returns-then-x-ge0 c =
 
 -- ── an amount below 0 ──────────────────────────────────────────────────────────────────────────
 
-lifts : (c : goal.Else-x-ge0) → amount c.before +ℤ pos (2 ^ 64) ≡ pos (word c.before)
+lifts : (c : Else-x-ge0) → amount c.before +ℤ pos (2 ^ 64) ≡ pos (word c.before)
 lifts c =
     let below : amount c.before ≡ negsuc (mag (amount c.before)) = negative (amount c.before) (sign-is c.before false c.if-x-ge0.false) in
     ap (λ z. z +ℤ pos (2 ^ 64)) below ∙ lifted-word (mag (amount c.before)) (amount-small c.before) ∙ ap (λ z. pos (twos_complement z)) (sym below) ∙ ap pos (sym c.word_of-word.ensures)
@@ -85,7 +96,7 @@ returns c =
 
 -- ── the high word stays in range ───────────────────────────────────────────────────────────────
 
-near_fits : (c : goal.After-word_of-word) (found moved : ℤ) → found ≡ moved → mag moved ≤ mag (high c) + 1 → SFits w64 found
+near_fits : (c : After-word_of-word) (found moved : ℤ) → found ≡ moved → mag moved ≤ mag (high c) + 1 → SFits w64 found
 near_fits c found moved e near = rw e (record { sfits = omega (arith, c.requires) })
 
 pub overflow_add-result-then-x-ge0 : goal.overflow_add-result-then-x-ge0

@@ -15,9 +15,17 @@ use Rattle.frames.specs.Answering.{IsLent}
 use Rattle.turns.specs.Turns.{held_in, Answers}
 use Rattle.turns.proofs.Parts.{part_length, part-shorter}
 use Rattle.turns.proofs.Answering.{not-passing, unwritten, none-batched, lent-as, batched}
+use Rattle.turns.proofs.answer.Lts as place
+use Rattle.turns.proofs.answer.Tie as tie
 use Rattle.turns.proofs.answer.Goals as goal
 
-module _ (s : goal.Start) where
+abbrev Start : Type 0
+Start = place.Start tie.the-claims tie.handed_pre tie.handed_post
+
+abbrev After-struct_known-2-1 : Type 0
+After-struct_known-2-1 = place.After-struct_known2 tie.the-claims tie.handed_pre tie.handed_post
+
+module _ (s : Start) where
   abbrev input : List ℕ
   input = s.args.input.now
 
@@ -37,7 +45,7 @@ returns-then-from-end c =
       record { held = (omega arith, omega arith); written = omega arith; room_left = λ _. c.requires.1; further = λ e. true-false refl e },
       (
         λ l read written a. record {
-          answers = unwritten (subst (Answers l (length (input c.before.before.before.before)) read written c.args.room.now h.passing) (ap (λ n. row n h.from (input c.before.before.before.before)) none) a);
+          answers = unwritten (subst (Answers l (length (input c.before.before.before.before.before)) read written c.args.room.now h.passing) (ap (λ n. row n h.from (input c.before.before.before.before.before)) none) a);
           none_left = λ _. tt;
         },
         λ _. refl,
@@ -52,7 +60,7 @@ returns-then-progress-eq0 c =
       call.ensures.0 c.args.held,
       (
         λ l read written passing.
-            let a = not-passing passing (some c.before.before.before.before.before.before.before.before.before.before.before.before.before.before.before.before.before.before.before.before.before.before.before.before c.if-from-end.false) in
+            let a = not-passing passing (some c.before.before.before.before.before.before.before.before.before.before.before.before.before.before.before.before.before.before.before.before.before.before.before.before.before c.if-from-end.false) in
             let (lent, is_line) = none-batched c.requires.2 c.if-progress-eq0.true (batch.ensures.0 (lent_after l a.handed_on) a.lent) in
             call.ensures.1.0 is_line l read written (lent-as a after lent),
         λ is. let same = (batch.ensures.0 unsound is).untouched refl in call.ensures.1.1 (subst (λ m. IsLent m unsound) (sym same) is) ∙ same,
@@ -62,22 +70,22 @@ returns-then-progress-eq0 c =
 pub settle-requires : goal.settle-requires
 settle-requires c = (c.requires.0.0, c.requires.0.1, c.requires.1, omega (arith, c.requires.2, c.output-1.given))
 
-module _ (c : goal.After-struct_known-2-1) where
-  abbrev start : goal.Start
+module _ (c : After-struct_known-2-1) where
+  abbrev start : Start
   start = c.before.before.before.before.before.before.before.before.before.before.before.before.before.before.before
 
   used-within : start.args.held.from + c.batch-progress.result.used ≤ start.args.held.end
-  used-within = omega (arith, c.batch-progress.ensures.1.0, long start, start.requires.0.0)
+  used-within = omega (arith, c.batch-progress.ensures.within.0, long start, start.requires.0.0)
 
 pub returns : goal.returns
 returns c =
     let batch = c.batch-progress in
-    let s = start c in
+    let s = start c.before in
     let h = s.args.held in
     let b = batch.result in
     let text = take b.written batch.new.1.1.0 in (
       record {
-        held = (used-within c, s.requires.0.1);
+        held = (used-within c.before, s.requires.0.1);
         written = omega (arith, batch.ensures.1.1, batch.auto);
         room_left = λ e. true-false e refl;
         further = λ _. (omega (arith, c.if-progress-eq0.false), refl);
@@ -88,7 +96,7 @@ returns c =
             record {
               answers =
                   subst (Answers l (length (input s)) read (written ++ text) batch.new.0 false)
-                  (part-shorter h.from h.end b.used (input s) s.requires.0.0 s.requires.0.1 (omega (arith, used-within c)))
+                  (part-shorter h.from h.end b.used (input s) s.requires.0.0 s.requires.0.1 (omega (arith, used-within c.before)))
                   (batched a (omega (arith, long s, s.requires.0.1)) (batch.ensures.0 (lent_after l a.handed_on) a.lent));
               none_left = λ e. true-false e refl;
             },

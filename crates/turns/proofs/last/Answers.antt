@@ -11,9 +11,14 @@ use Rattle.records.specs.Rows.{row}
 use Rattle.turns.specs.Turns.{held_in}
 use Rattle.turns.proofs.Parts.{part_length}
 use Rattle.turns.proofs.WholeInput.{ends-at-feed, ends-in-line}
+use Rattle.turns.proofs.last.Lts as place
+use Rattle.turns.proofs.last.Tie as tie
 use Rattle.turns.proofs.last.Goals as goal
 
-module _ (s : goal.Start) where
+abbrev Start : Type 0
+Start = place.Start tie.the-claims tie.handed_pre tie.handed_post
+
+module _ (s : Start) where
   abbrev input : List ℕ
   input = s.args.input.now
 
@@ -28,7 +33,7 @@ returns-then-end-from c =
     let h = c.args.held in
     let none : h.end - h.from ≡ 0 = omega (arith, c.if-end-from.true) in (
       omega arith,
-      (λ l read written enough is_line a. ends-at-feed (length (input c.before.before.before.before)) enough (short c.before.before.before.before) is_line a (ap (λ n. row n h.from (input c.before.before.before.before)) none), λ _. refl),
+      (λ l read written enough is_line a. ends-at-feed (length (input c.before.before.before.before.before)) enough (short c.before.before.before.before.before) is_line a (ap (λ n. row n h.from (input c.before.before.before.before.before)) none), λ _. refl),
     )
 
 pub returns : goal.returns
@@ -37,7 +42,7 @@ returns c =
     (
       omega (arith, call.ensures.0, call.auto),
       (
-        λ l read written enough is_line a. ends-in-line (length (input c.before.before.before.before.before.before.before.before.before.before.before.before)) enough (short c.before.before.before.before.before.before.before.before.before.before.before.before) is_line a (omega (arith, long c.before.before.before.before.before.before.before.before.before.before.before.before, c.if-end-from.false, c.requires.0.0))
+        λ l read written enough is_line a. ends-in-line (length (input c.before.before.before.before.before.before.before.before.before.before.before.before.before)) enough (short c.before.before.before.before.before.before.before.before.before.before.before.before.before) is_line a (omega (arith, long c.before.before.before.before.before.before.before.before.before.before.before.before.before, c.if-end-from.false, c.requires.0.0))
             (call.ensures.1 (lent_after l a.handed_on) a.lent),
         λ is. (call.ensures.1 unsound is).untouched refl,
       ),

@@ -14,28 +14,33 @@ use Rattle.lines.specs.declared.LineEnd.TheVariants as found
 use Rattle.turns.specs.Turns.{Reads}
 use Rattle.turns.proofs.Parts.{part-is, behind-feed}
 use Rattle.turns.proofs.Reading.{pass_on, passed}
+use Rattle.turns.proofs.pass_over.Lts as place
+use Rattle.turns.proofs.pass_over.Tie as tie
 use Rattle.turns.proofs.pass_over.Goals as goal
 
-part-long : (s : goal.Start) → length (take s.args.end s.args.input.now) ≡ s.args.end
+abbrev Start : Type 0
+Start = place.Start tie.the-claims tie.handed_pre tie.handed_post
+
+abbrev In-At : Type 0
+In-At = place.After-known_told tie.the-claims tie.handed_pre tie.handed_post
+
+part-long : (s : Start) → length (take s.args.end s.args.input.now) ≡ s.args.end
 part-long s = length-take-le s.args.end s.args.input.now s.requires.1
 
 pub slice_bounds-line_end-end : goal.slice_bounds-line_end-end
-slice_bounds-line_end-end c = sym (part-long c.before)
+slice_bounds-line_end-end c = sym (part-long c.before.before)
 
 pub line_end-requires : goal.line_end-requires
-line_end-requires c = omega (arith, part-long c.before, c.requires)
+line_end-requires c = omega (arith, part-long c.before.before, c.requires)
 
 pub returns-in_default : goal.returns-in_default
 returns-in_default c =
     let a = c.args in
     let line : IsLine (drop a.from (take a.end a.input.now)) = subst (FirstFeed (take a.end a.input.now) a.from) c.in_default.is c.line_end.ensures in
-    let more = row (a.end - a.from) a.from a.input.now in (
-      (omega arith, omega arith),
-      λ read handed_on reads. pass_on more (subst IsLine (sym (part-is a.input.now a.from a.end c.requires.0)) line) reads,
-    )
+    let more = row (a.end - a.from) a.from a.input.now in record { within = (omega arith, omega arith); reads = λ read handed_on reads. pass_on more (subst IsLine (sym (part-is a.input.now a.from a.end c.requires.0)) line) reads }
 
-module _ (c : goal.In-At) where
-  abbrev start : goal.Start
+module _ (c : In-At) where
+  abbrev start : Start
   start = c.before.before.before.before.before
 
   abbrev feed : ℕ
@@ -45,16 +50,13 @@ module _ (c : goal.In-At) where
   found_at = subst (FirstFeed (take start.args.end start.args.input.now) start.args.from) c.in-At.is c.line_end.ensures
 
 pub overflow_add-result : goal.overflow_add-result
-overflow_add-result c = record { fits = omega (arith, (found_at c).1, part-long (start c), (start c).ranges) }
+overflow_add-result c = record { fits = omega (arith, (found_at c.before).1, part-long (start c.before), (start c.before).ranges) }
 
 pub returns : goal.returns
 returns c =
-    let s = start c in
+    let s = start c.before in
     let a = s.args in
     let input = a.input.now in
-    let held = row (a.end - (feed c + 1)) (feed c + 1) input in
-    let part = take (feed c - a.from) (drop a.from (take a.end input)) in (
-      (omega (arith, (found_at c).1, part-long s), s.requires.1),
-      λ read handed_on reads. subst (λ more. Reads (length input) (read ++ more) handed_on false held) (sym (behind-feed input a.from a.end (feed c) s.requires.0 s.requires.1 (found_at c)))
-          (passed part held (found_at c).3 reads),
-    )
+    let held = row (a.end - (feed c.before + 1)) (feed c.before + 1) input in
+    let part = take (feed c.before - a.from) (drop a.from (take a.end input)) in record { within = (omega (arith, (found_at c.before).1, part-long s), s.requires.1); reads = λ read handed_on reads. subst (λ more. Reads (length input) (read ++ more) handed_on false held) (sym (behind-feed input a.from a.end (feed c.before) s.requires.0 s.requires.1 (found_at c.before)))
+          (passed part held (found_at c.before).3 reads) }

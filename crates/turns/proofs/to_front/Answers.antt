@@ -18,5 +18,4 @@ pub returns : goal.returns
 returns c =
     let l = c.loop-at in
     let a = c.args in
-    let all : l.to ≡ a.end - a.from = omega arith in
-    (all, l.invariant.2.front ∙ ap (λ n. row n a.from a.input.now) all)
+    let all : l.to ≡ a.end - a.from = omega arith in record { size = all; front = l.invariant.2.front ∙ ap (λ n. row n a.from a.input.now) all }

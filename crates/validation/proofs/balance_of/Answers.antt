@@ -15,12 +15,26 @@ use Rattle.totals.specs.Totals.{value_of, fitted}
 use Rattle.totals.proofs.Fitting.{fits-is, outside-is}
 use Rattle.validation.proofs.Balancing.{overflows, delta-overflows, differs, is_negative, balanced}
 use Rattle.validation.proofs.Deciding.{sign-is}
+use Rattle.validation.proofs.balance_of.Lts as place
+use Rattle.validation.proofs.balance_of.Tie as tie
 use Rattle.validation.proofs.balance_of.Goals as goal
+
+abbrev Start : Type 0
+Start = place.Start tie.the-claims tie.handed_pre tie.handed_post
+
+abbrev After-fit : Type 0
+After-fit = place.After-fit tie.the-claims tie.handed_pre tie.handed_post
+
+abbrev After-struct_told-2-1 : Type 0
+After-struct_told-2-1 = place.After-struct_told2 tie.the-claims tie.handed_pre tie.handed_post
+
+abbrev After-fit-2 : Type 0
+After-fit-2 = place.After-fit2 tie.the-claims tie.handed_pre tie.handed_post
 
 -- ── the exact sum ──────────────────────────────────────────────────────────────────────────────
 
-module _ (c : goal.After-fit) where
-  abbrev entry : goal.Start
+module _ (c : After-fit) where
+  abbrev entry : Start
   entry = c.before.before.before.before.before
 
   abbrev initial : ℤ
@@ -40,9 +54,9 @@ module _ (c : goal.After-fit) where
 
   sum_is : value_of c.plus-sum.result ≡ exact
   sum_is =
-      let first = c.plus.ensures.0 ∙ ap (λ z. z +ℤ remaining) c.nothing.ensures.0 ∙ +ℤ_idl remaining in
-      let second = c.plus-held.ensures.0 ∙ ap (λ z. z +ℤ reserved) first in
-      c.plus-sum.ensures.0 ∙ ap (λ z. z +ℤ committed) second
+      let first = c.plus.ensures.value ∙ ap (λ z. z +ℤ remaining) c.nothing.ensures.value ∙ +ℤ_idl remaining in
+      let second = c.plus-held.ensures.value ∙ ap (λ z. z +ℤ reserved) first in
+      c.plus-sum.ensures.value ∙ ap (λ z. z +ℤ committed) second
 
   fitted-sum : fitted exact ≡ c.fit.result
   fitted-sum = sym (c.fit.ensures ∙ ap fitted sum_is)
@@ -52,8 +66,8 @@ returns-in_default c a = sym (overflows a (initial c.before.before) (remaining c
 
 -- ── the sum against initial ────────────────────────────────────────────────────────────────────
 
-module _ (c : goal.After-struct_told-2-1) where
-  abbrev summed : goal.After-fit
+module _ (c : After-struct_told-2-1) where
+  abbrev summed : After-fit
   summed = c.before.before.before.before.before.before.before
 
   abbrev found : ℤ
@@ -80,10 +94,10 @@ returns-then-exact-initial c a =
 
 -- ── the difference ─────────────────────────────────────────────────────────────────────────────
 
-fitted-delta : (c : goal.After-fit-2) → let f = summed c.before.before.before in fitted (exact f -ℤ initial f) ≡ c.fit-2.result
+fitted-delta : (c : After-fit-2) → let f = summed c.before.before.before in fitted (exact f -ℤ initial f) ≡ c.fit-2.result
 fitted-delta c =
     let f = summed c.before.before.before in
-    sym (c.fit-2.ensures ∙ ap fitted (c.minus.ensures.0 ∙ ap (λ z. z -ℤ initial f) (sum_is f)))
+    sym (c.fit-2.ensures ∙ ap fitted (c.minus.ensures.value ∙ ap (λ z. z -ℤ initial f) (sum_is f)))
 
 pub returns-in_default-fit : goal.returns-in_default-fit
 returns-in_default-fit c a =

@@ -9,13 +9,8 @@ use Rattle.validation.proofs.of_row.Goals as goal
 
 pub returns-in-DuplicateTenant : goal.returns-in-DuplicateTenant
 returns-in-DuplicateTenant c =
-    let name = c.name_at-name.ensures in
-    (
-      λ here. ap (λ a. refusal_of a c.args.verdict) (ap spelled (name.0 here) ∙ spelled-stored _),
-      named-form c.requires.row.name (name.0 c.requires) name.1 c.in-DuplicateTenant.keys1,
-    )
+    let name = c.name_at-name.ensures in record { refusal = λ here. ap (λ a. refusal_of a c.args.verdict) (ap spelled (name.0 here) ∙ spelled-stored _); form = named-form c.requires.row.name (name.0 c.requires) name.1 c.in-DuplicateTenant.keys1 }
 
 pub returns-in_default : goal.returns-in_default
 returns-in_default c =
-    let v = c.args.verdict in
-    (λ here. ap refusal_in c.nameless.ensures ∙ of-any-row here.row.name v c.in-DuplicateTenant.keys2, nameless-form c.nameless.ensures)
+    let v = c.args.verdict in record { refusal = λ here. ap refusal_in c.nameless.ensures ∙ of-any-row here.row.name v c.in-DuplicateTenant.keys2; form = nameless-form c.nameless.ensures }

@@ -9,12 +9,20 @@ use Rattle.snapshot_reader.proofs.Rows.{Further, forward}
 use Rattle.validation.specs.Judgement.{seen_in}
 use Rattle.validation.proofs.StoredForm.{nameless-form}
 use Rattle.validation.proofs.Passing.{validating, Coming, first, row-there, standing, stops, goes_on, none-bad}
+use Rattle.validation.proofs.rows_validation.Lts as place
+use Rattle.validation.proofs.rows_validation.Tie as tie
 use Rattle.validation.proofs.rows_validation.Goals as goal
 
-here : (c : goal.In-loop-at) → RowOf c.args.bytes.now c.loop-at.at
+abbrev In-loop-at : Type 0
+In-loop-at = place.In-loop tie.the-claims tie.handed_pre tie.handed_post goal.the-invariant-loop-at goal.the-decreases-loop-at
+
+abbrev After-name_end-at : Type 0
+After-name_end-at = place.After-name_end tie.the-claims tie.handed_pre tie.handed_post goal.the-invariant-loop-at goal.the-decreases-loop-at
+
+here : (c : In-loop-at) → RowOf c.args.bytes.now c.loop-at.at
 here c = row-there validating c.loop-at.invariant c.loop-at-test.true c.requires
 
-further : (c : goal.After-name_end-at)
+further : (c : After-name_end-at)
     → Further c.args.bytes.now c.loop-at.at c.name_end-at.result
 further c = forward (standing (here c.before.before.before.before)) c.name_end-at.ensures
 
@@ -22,8 +30,7 @@ pub returns-in_default : goal.returns-in_default
 unfolding seen_in
 returns-in_default c =
     let row = c.row_validation-verdict in
-    let said = c.of_row.ensures in
-    (stops validating c.loop-at.invariant c.loop-at-test.true row.result row.ensures c.of_row.result said.0 c.in-Done.keys2 c.requires, said.1)
+    let said = c.of_row.ensures in record { refusal = stops validating c.loop-at.invariant c.loop-at-test.true row.result row.ensures c.of_row.result said.0 c.in-Done.keys2 c.requires; form = said.1 }
 
 pub loop-at-preserved : goal.loop-at-preserved
 loop-at-preserved c =
@@ -32,23 +39,22 @@ loop-at-preserved c =
 
 pub returns : goal.returns
 unfolding seen_in
-returns c =
-    (none-bad validating c.loop-at.invariant c.loop-at-test.false c.nameless.ensures c.requires, nameless-form c.nameless.ensures)
+returns c = record { refusal = none-bad validating c.loop-at.invariant c.loop-at-test.false c.nameless.ensures c.requires; form = nameless-form c.nameless.ensures }
 
 pub loop-at-init : goal.loop-at-init
 loop-at-init c = first validating
 
 pub row_validation-verdict-requires : goal.row_validation-verdict-requires
-row_validation-verdict-requires c = here c
+row_validation-verdict-requires c = here c.before
 
 pub of_row-requires : goal.of_row-requires
-of_row-requires c = here c.before.before
+of_row-requires c = here c.before.before.before
 
 pub name_end-at-requires : goal.name_end-at-requires
-name_end-at-requires c = standing (here c.before.before.before)
+name_end-at-requires c = standing (here c.before.before.before.before)
 
 pub overflow_add-at : goal.overflow_add-at
-overflow_add-at c = omega (arith, further c)
+overflow_add-at c = omega (arith, further c.before)
 
 pub loop-at-smaller : goal.loop-at-smaller
-loop-at-smaller c = omega (arith, further c)
+loop-at-smaller c = omega (arith, further c.before)

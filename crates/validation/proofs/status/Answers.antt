@@ -11,9 +11,7 @@ use Rattle.validation.proofs.status.Goals as goal
 
 pub returns-then-has_long_name : goal.returns-then-has_long_name
 unfolding status
-returns-then-has_long_name c = (
-  λ s e. ap judged_reply c.nameless.ensures ∙ ap (λ o. reply_or o (done [])) (sym (decides _ _ _ (sym (c.has_long_name.ensures s e) ∙ c.if-has_long_name.true))),
-  nameless-form c.nameless.ensures,
+returns-then-has_long_name c = record { answer = λ s e. ap judged_reply c.nameless.ensures ∙ ap (λ o. reply_or o (done [])) (sym (decides _ _ _ (sym (c.has_long_name.ensures s e) ∙ c.if-has_long_name.true))); form = nameless-form c.nameless.ensures }
 )
 
 pub conservation-requires : goal.conservation-requires
@@ -23,8 +21,4 @@ conservation-requires c =
 
 pub returns : goal.returns
 unfolding status
-returns c =
-    (
-      λ s e. ap (λ o. reply_or o (done [])) (c.conservation.ensures.0 s e ∙ sym (goes_on _ _ _ (sym (c.has_long_name.ensures s e) ∙ c.if-has_long_name.false))),
-      c.conservation.ensures.1,
-    )
+returns c = record { answer = λ s e. ap (λ o. reply_or o (done [])) (c.conservation.ensures.refusal s e ∙ sym (goes_on _ _ _ (sym (c.has_long_name.ensures s e) ∙ c.if-has_long_name.false))); form = c.conservation.ensures.form }

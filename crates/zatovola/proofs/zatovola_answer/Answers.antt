@@ -10,10 +10,21 @@ use Rattle.rules.specs.AnswerNumbers.{Lent}
 use Rattle.rules.specs.Frames.{Operation, operation_of_frame}
 use Rattle.frames.specs.Answering.{IsLent, AnswersOperation, room_for}
 use Rattle.lines.proofs.AnswerLines.{found}
+use Rattle.zatovola.proofs.zatovola_answer.Lts as place
+use Rattle.zatovola.proofs.zatovola_answer.Tie as tie
 use Rattle.zatovola.proofs.zatovola_answer.Goals as goal
 
-module _ (c : goal.After-room_for) where
-  abbrev start : goal.Start
+abbrev Start : Type 0
+Start = place.Start tie.the-claims tie.handed_pre tie.handed_post
+
+abbrev After-room_for : Type 0
+After-room_for = place.After-room_for tie.the-claims tie.handed_pre tie.handed_post
+
+abbrev After-answer : Type 0
+After-answer = place.After-answer tie.the-claims tie.handed_pre tie.handed_post
+
+module _ (c : After-room_for) where
+  abbrev start : Start
   start = c.before.before.before.before.before
 
   abbrev operation : Option Operation
@@ -22,8 +33,8 @@ module _ (c : goal.After-room_for) where
   needed-is : c.room_for.result ≡ room_for operation
   needed-is = let read = c.read-operation in c.room_for.ensures start.args.frame.now read.ensures.1 ∙ ap room_for read.ensures.0
 
-module _ (c : goal.After-answer) where
-  abbrev roomed : goal.After-room_for
+module _ (c : After-answer) where
+  abbrev roomed : After-room_for
   roomed = c.before.before.before.before.before
 
   room : room_for (operation roomed) ≤ length (start roomed).args.output.now
@@ -36,10 +47,10 @@ module _ (c : goal.After-answer) where
       AnswersOperation o l a.room.now c.answer.new.room a.output.now c.answer.new.output c.answer.result
 
   answers : (l : Lent) → IsLent (start roomed).args.room.now l → Answered l (operation roomed)
-  answers l is_lent = subst (Answered l) roomed.read-operation.ensures.0 (c.answer.ensures l is_lent)
+  answers l is_lent = subst (Answered l) roomed.read-operation.ensures.operation (c.answer.ensures l is_lent)
 
 pub returns-then-output-room_for : goal.returns-then-output-room_for
-returns-then-output-room_for c l is_lent = record { answered = λ room. absurd (omega (arith, room, needed-is c.before, c.if-output-room_for.true)); too_short = λ _. (refl, refl, refl) }
+returns-then-output-room_for c l is_lent = record { answered = λ room. absurd (omega (arith, room, needed-is c.before.before, c.if-output-room_for.true)); too_short = λ _. (refl, refl, refl) }
 
 pub answer-requires : goal.answer-requires
 answer-requires c =
@@ -49,4 +60,4 @@ answer-requires c =
 
 pub returns : goal.returns
 returns c l is_lent =
-    record { answered = λ _. answers c.before.before.before.before l is_lent; too_short = λ short. absurd (omega (arith, short, room c.before.before.before.before)) }
+    record { answered = λ _. answers c.before.before.before.before.before l is_lent; too_short = λ short. absurd (omega (arith, short, room c.before.before.before.before.before)) }

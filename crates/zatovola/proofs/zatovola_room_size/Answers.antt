@@ -4,7 +4,12 @@ use native.Mathlib.Omega.{arith}
 use borrow.Author.Tests.{ltb-true, ltb-false}
 use Rattle.rules.specs.RoomAndSoundLedger.{most_names, most_reservations, InRange}
 use Rattle.zatovola.proofs.RoomSize.{no_room, its-room}
+use Rattle.zatovola.proofs.zatovola_room_size.Lts as place
+use Rattle.zatovola.proofs.zatovola_room_size.Tie as tie
 use Rattle.zatovola.proofs.zatovola_room_size.Goals as goal
+
+abbrev Else-reservations-gt-MOST_RESERVATIONS : Type 0
+Else-reservations-gt-MOST_RESERVATIONS = place.Else4 tie.handed_pre tie.handed_post
 
 pub returns-then-names-eq0 : goal.returns-then-names-eq0
 returns-then-names-eq0 c =
@@ -16,7 +21,7 @@ returns-then-reservations-eq0 c =
     let r = c.args.reservations in
     no_room _ _ (λ _ reservations. ⊎_elim (λ zero. omega (arith, zero.taken)) (λ more. omega (arith, ltb-true most_reservations r more.1.taken)) c.if-reservations-eq0.branch)
 
-module _ (c : goal.Else-reservations-gt-MOST_RESERVATIONS) where
+module _ (c : Else-reservations-gt-MOST_RESERVATIONS) where
   names : InRange 1 most_names c.args.names
   names = (omega (arith, c.if-names-eq0.false), ltb-false _ _ c.if-names-gt-MOST_NAMES.false-raw)
 

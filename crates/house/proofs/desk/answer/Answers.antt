@@ -22,10 +22,10 @@ answer-turn-requires c =
     (i.3, omega (arith, i.1, c.requires.1), omega (arith, i.2, c.requires.2))
 
 pub slice_bounds-written-end : goal.slice_bounds-written-end
-slice_bounds-written-end c = c.answer-turn.ensures.0.written
+slice_bounds-written-end c = c.answer-turn.ensures.within.written
 
 pub slice_bounds-written-end-in-loop-turn : goal.slice_bounds-written-end-in-loop-turn
-slice_bounds-written-end-in-loop-turn c = sym (length-take-le _ _ (slice_bounds-written-end c))
+slice_bounds-written-end-in-loop-turn c = sym (length-take-le _ _ (slice_bounds-written-end c.before))
 
 pub returns-then-not-written : goal.returns-then-not-written
 returns-then-not-written c = (c.stopped.ensures.0, omega (arith, c.stopped.ensures.1, c.requires.1))
@@ -38,13 +38,13 @@ less false false e further within = let (more, same) = further refl in omega ari
 
 pub loop-turn-smaller : goal.loop-turn-smaller
 loop-turn-smaller c =
-    let w = c.answer-turn.ensures.0 in
+    let w = c.answer-turn.ensures.within in
     less c.answer-turn.result.done c.loop-turn.turn.done (not-true _ c.loop-turn-test.true) w.further w.held.0
 
 pub loop-turn-preserved : goal.loop-turn-preserved
 loop-turn-preserved c =
     let i = c.loop-turn.invariant in
-    let w = c.answer-turn.ensures.0 in
+    let w = c.answer-turn.ensures.within in
     (c.room-1.given ∙ i.0, c.input-1.given ∙ i.1, c.output-1.given ∙ i.2, w.held, w.room_left)
 
 pub returns : goal.returns

@@ -5,4 +5,4 @@ use lib.Seq.{length-take-le}
 use Rattle.house.proofs.desk.close.Goals as goal
 
 pub slice_bounds-written-end-2 : goal.slice_bounds-written-end-2
-slice_bounds-written-end-2 c = sym (length-take-le _ _ c.last-size.ensures.0)
+slice_bounds-written-end-2 c = sym (length-take-le _ _ c.last-size.ensures.within)

@@ -14,7 +14,15 @@ use Rattle.recorder.specs.declared.answer_reader.Carried.{Carried}
 use Rattle.recorder.specs.declared.answer_reader.Carried.TheVariants as carried
 use Rattle.recorder.proofs.Answered.{empty, answered, no_answer, an-answer}
 use Rattle.recorder.specs.declared.answer_reader.AnswerRead.TheVariants as answer
+use Rattle.recorder.proofs.answer_reader.read_answer_bytes.Lts as place
+use Rattle.recorder.proofs.answer_reader.read_answer_bytes.Tie as tie
 use Rattle.recorder.proofs.answer_reader.read_answer_bytes.Goals as goal
+
+abbrev Start : Type 0
+Start = place.Start tie.the-claims tie.handed_pre tie.handed_post
+
+abbrev After-read_carried : Type 0
+After-read_carried = place.After-read_carried tie.the-claims tie.handed_pre tie.handed_post
 
 pub returns-then-bytes-eq0 : goal.returns-then-bytes-eq0
 returns-then-bytes-eq0 c =
@@ -28,8 +36,8 @@ pub read_carried-requires : goal.read_carried-requires
 read_carried-requires c = (all-bytes c.args.bytes.now c.shared_slice_known-2-1.given, omega arith)
 
 -- what was read is what the rules read
-module _ (c : goal.After-read_carried) where
-  abbrev start : goal.Start
+module _ (c : After-read_carried) where
+  abbrev start : Start
   start = c.before.before.before.before.before
 
   abbrev read : Option Reply
@@ -43,9 +51,9 @@ module _ (c : goal.After-read_carried) where
       ∙ answered start.args.code start.args.bytes.now (omega arith) (kinds_of shape.result) shape.ensures c.read_carried.result c.read_carried.ensures
 
 pub returns-in_default : goal.returns-in_default
-returns-in_default c = no_answer (read c.before.before) (start c.before.before).args.words.now (as_read c.before.before carried.BadFrame c.in_default.is)
+returns-in_default c = no_answer (read c.before.before.before) (start c.before.before.before).args.words.now (as_read c.before.before.before carried.BadFrame c.in_default.is)
 
 pub returns : goal.returns
 returns c =
     let values = c.values-1.given in
-    an-answer (read c.before.before.before.before.before) (start c.before.before.before.before.before).args.words.now _ (as_read c.before.before.before.before.before _ values.1) c.store.ensures
+    an-answer (read c.before.before.before.before.before.before) (start c.before.before.before.before.before.before).args.words.now _ (as_read c.before.before.before.before.before.before _ values.1) c.store.ensures

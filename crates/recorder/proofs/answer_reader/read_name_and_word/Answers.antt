@@ -13,7 +13,15 @@ use Rattle.rules.specs.SnapshotsMigrationCertificates.{number_of}
 use Rattle.recorder.specs.Shapes.{Kind, a_word, a_name}
 use Rattle.recorder.specs.Reading.{filled, NameEnds}
 use Rattle.recorder.proofs.Places.{values_at, carries, nameless, other-size, alike}
+use Rattle.recorder.proofs.answer_reader.read_name_and_word.Lts as place
+use Rattle.recorder.proofs.answer_reader.read_name_and_word.Tie as tie
 use Rattle.recorder.proofs.answer_reader.read_name_and_word.Goals as goal
+
+abbrev Start : Type 0
+Start = place.Start tie.the-claims tie.handed_pre tie.handed_post
+
+abbrev In-At : Type 0
+In-At = place.After-known_told tie.the-claims tie.handed_pre tie.handed_post
 
 abbrev kinds : List Kind
 kinds = a_name ∷ a_word ∷ []
@@ -28,8 +36,8 @@ returns-in_default c =
     let bs = c.args.bytes.now in
     nameless bs c.requires.0 (a_word ∷ []) (tt, tt) c.requires.1 (subst (NameEnds bs) c.in_default.is c.name_end.ensures)
 
-module _ (k : goal.In-At) where
-  abbrev start : goal.Start
+module _ (k : In-At) where
+  abbrev start : Start
   start = k.before.before.before.before.before
 
   abbrev bytes : List ℕ
@@ -42,20 +50,20 @@ module _ (k : goal.In-At) where
   ends = subst (NameEnds bytes) k.in-At.is k.name_end.ensures
 
 pub overflow_add-end : goal.overflow_add-end
-overflow_add-end c = let (e, l, h) = ends c in record { fits = omega arith }
+overflow_add-end c = let (e, l, h) = ends c.before in record { fits = omega arith }
 
 pub returns-then-bytes-end : goal.returns-then-bytes-end
 returns-then-bytes-end c =
-    let (e, l, h) = ends c.before in
-    other-size (bytes c.before) (start c.before).requires.0 kinds (tt, (tt, tt)) (start c.before).requires.1 (omega arith)
+    let (e, l, h) = ends c.before.before in
+    other-size (bytes c.before.before) (start c.before.before).requires.0 kinds (tt, (tt, tt)) (start c.before.before).requires.1 (omega arith)
 
 pub overflow_sub-end : goal.overflow_sub-end
-overflow_sub-end c = let (e, l, h) = ends c.before in omega arith
+overflow_sub-end c = let (e, l, h) = ends c.before.before in omega arith
 
 pub returns : goal.returns
 returns c =
-    let bs = bytes c.before.before.before in
-    let (e, l, h) = ends c.before.before.before in
-    let size : end c.before.before.before - 2 ≡ get_or bs 1 0 = omega arith in
-    carries bs (start c.before.before.before).requires.0 kinds (tt, (tt, tt)) (start c.before.before.before).requires.1
+    let bs = bytes c.before.before.before.before in
+    let (e, l, h) = ends c.before.before.before.before in
+    let size : end c.before.before.before.before - 2 ≡ get_or bs 1 0 = omega arith in
+    carries bs (start c.before.before.before.before).requires.0 kinds (tt, (tt, tt)) (start c.before.before.before.before).requires.1
     (c.up_to_three.ensures ∙ alike size (c.word_at.ensures ∙ ap (λ n. number_of (take 8 (drop n bs))) e) refl refl refl refl refl refl ∙ sym (fit bs h (omega arith)))

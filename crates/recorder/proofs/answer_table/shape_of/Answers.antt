@@ -8,7 +8,15 @@ use borrow.Author.Rules.{rules}
 use Rattle.rules.specs.Recorder.{form_of}
 use Rattle.recorder.specs.Shapes.{kinds_in}
 use Rattle.recorder.proofs.AnswerTable.{bit_at, beyond, no-bit, of-top-up, of_others}
+use Rattle.recorder.proofs.answer_table.shape_of.Lts as place
+use Rattle.recorder.proofs.answer_table.shape_of.Tie as tie
 use Rattle.recorder.proofs.answer_table.shape_of.Goals as goal
+
+abbrev After-refusals : Type 0
+After-refusals = place.After-refusals tie.the-claims tie.handed_pre tie.handed_post
+
+abbrev Else-refusals-number-eq0 : Type 0
+Else-refusals-number-eq0 = place.Else3 tie.the-claims tie.handed_pre tie.handed_post
 
 pub returns-then-number-eq0 : goal.returns-then-number-eq0
 returns-then-number-eq0 c = c.done_shape.ensures ∙ ap (λ n. kinds_in (form_of c.args.code n)) (sym c.if-number-eq0.true)
@@ -17,13 +25,13 @@ pub returns-then-number-gt-LAST_NUMBER : goal.returns-then-number-gt-LAST_NUMBER
 returns-then-number-gt-LAST_NUMBER c = sym (ap kinds_in (beyond c.args.code c.args.number (omega arith)))
 
 -- the bit that was tested is that of the operation's set
-bit : (c : goal.After-refusals) → c.refusals.result / 2 ^ c.args.number % 2 ≡ bit_at c.args.code c.args.number
+bit : (c : After-refusals) → c.refusals.result / 2 ^ c.args.number % 2 ≡ bit_at c.args.code c.args.number
 bit c = ap (λ set. set / 2 ^ c.args.number % 2) c.refusals.ensures
 
 pub returns-then-refusals-number-eq0 : goal.returns-then-refusals-number-eq0
 returns-then-refusals-number-eq0 c = no-bit _ _ (omega arith) (omega arith) (sym (bit c.before) ∙ c.if-refusals-number-eq0.true)
 
-is_set : (c : goal.Else-refusals-number-eq0) → bit_at c.args.code c.args.number ≡ 0 → ⊥
+is_set : (c : Else-refusals-number-eq0) → bit_at c.args.code c.args.number ≡ 0 → ⊥
 is_set c e = c.if-refusals-number-eq0.false (bit c.before ∙ e)
 
 pub returns-then-code-eq-TOP_UP : goal.returns-then-code-eq-TOP_UP

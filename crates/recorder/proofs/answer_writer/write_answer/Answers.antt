@@ -17,13 +17,24 @@ use Rattle.recorder.specs.Shapes.{kinds_of}
 use Rattle.recorder.specs.AnswerWords.{head_of, tail_of, count_in}
 use Rattle.recorder.proofs.AnswerTable.{beyond, many-is-done}
 use Rattle.recorder.proofs.AnswerWords.{outcome, judged-is, none_is}
+use Rattle.recorder.proofs.answer_writer.write_answer.Lts as place
+use Rattle.recorder.proofs.answer_writer.write_answer.Tie as tie
 use Rattle.recorder.proofs.answer_writer.write_answer.Goals as goal
+
+abbrev Start : Type 0
+Start = place.Start tie.the-claims tie.handed_pre tie.handed_post
+
+abbrev After-number_in-number : Type 0
+After-number_in-number = place.After-number_in tie.the-claims tie.handed_pre tie.handed_post
+
+abbrev After-judge-judged : Type 0
+After-judge-judged = place.After-judge tie.the-claims tie.handed_pre tie.handed_post
 
 by-rule : {rule other : Recording} {after : List ℕ} {r : Recorded} → rule ≡ other → Records other after r → Records rule after r
 by-rule {after = after} {r = r} is records = subst (λ rule. Records rule after r) (sym is) records
 
-module _ (c : goal.After-number_in-number) where
-  abbrev start : goal.Start
+module _ (c : After-number_in-number) where
+  abbrev start : Start
   start = c.before.before.before.before
 
   abbrev words : List ℕ
@@ -41,11 +52,11 @@ module _ (c : goal.After-number_in-number) where
 pub returns-then-number-gt-LAST_NUMBER : goal.returns-then-number-gt-LAST_NUMBER
 returns-then-number-gt-LAST_NUMBER c =
     let number = c.number_in-number.result in
-    by-rule (none_is (start c.before).args.code (words c.before) (part c.before) (room c.before) number c.number_in-number.ensures.0 (omega (arith, nine c.before)) (beyond (start c.before).args.code number c.if-number-gt-LAST_NUMBER.true))
+    by-rule (none_is (start c.before.before).args.code (words c.before.before) (part c.before.before) (room c.before.before) number c.number_in-number.ensures.0 (omega (arith, nine c.before.before)) (beyond (start c.before.before).args.code number c.if-number-gt-LAST_NUMBER.true))
     (record { reply = refl; room = refl })
 
-module _ (c : goal.After-judge-judged) where
-  abbrev numbered : goal.After-number_in-number
+module _ (c : After-judge-judged) where
+  abbrev numbered : After-number_in-number
   numbered = c.before.before.before
 
   abbrev number : ℕ
@@ -64,14 +75,14 @@ pub write_judged-requires : goal.write_judged-requires
 write_judged-requires c =
     record {
       passes = sym c.judge-judged.ensures ∙ c.in-Passes.is;
-      done = λ many. many-is-done (start (numbered c.before.before.before)).args.code (number c.before.before.before) (subst (λ o. 4 ≤ count_in o) c.shape_of-shape.ensures many);
+      done = λ many. many-is-done (start (numbered c.before.before.before.before)).args.code (number c.before.before.before.before) (subst (λ o. 4 ≤ count_in o) c.shape_of-shape.ensures many);
     }
 
 pub returns-in-BadFrame : goal.returns-in-BadFrame
-returns-in-BadFrame c = by-rule (rule-is c.before.before BadFrame c.in-BadFrame.is) (record { reply = refl; room = refl })
+returns-in-BadFrame c = by-rule (rule-is c.before.before.before BadFrame c.in-BadFrame.is) (record { reply = refl; room = refl })
 
 pub returns-in-NameTooLong : goal.returns-in-NameTooLong
-returns-in-NameTooLong c = by-rule (rule-is c.before.before NameTooLong c.in-NameTooLong.is) (record { reply = refl; room = refl })
+returns-in-NameTooLong c = by-rule (rule-is c.before.before.before NameTooLong c.in-NameTooLong.is) (record { reply = refl; room = refl })
 
 pub returns-in-Passes : goal.returns-in-Passes
-returns-in-Passes c = by-rule (rule-is c.before.before.before.before.before.before Passes c.in-Passes.is) c.write_judged.ensures
+returns-in-Passes c = by-rule (rule-is c.before.before.before.before.before.before.before Passes c.in-Passes.is) c.write_judged.ensures

@@ -15,10 +15,18 @@ use Rattle.recorder.specs.Shapes.{kinds_of}
 use Rattle.recorder.specs.AnswerWords.{head_of, tail_of}
 use Rattle.recorder.proofs.OperationFrames.{head-is, head-within}
 use Rattle.recorder.proofs.AnswerWords.{fits-frame, from_is}
+use Rattle.recorder.proofs.answer_writer.write_judged.Lts as place
+use Rattle.recorder.proofs.answer_writer.write_judged.Tie as tie
 use Rattle.recorder.proofs.answer_writer.write_judged.Goals as goal
 
-module _ (c : goal.After-tail_start-start) where
-  abbrev start : goal.Start
+abbrev Start : Type 0
+Start = place.Start tie.the-claims tie.handed_pre tie.handed_post
+
+abbrev After-tail_start-start : Type 0
+After-tail_start-start = place.After-tail_start tie.the-claims tie.handed_pre tie.handed_post
+
+module _ (c : After-tail_start-start) where
+  abbrev start : Start
   start = c.before.before.before.before.before.before
 
   abbrev part : List ℕ
@@ -49,9 +57,9 @@ slice_bounds-put-end c = sym (length-take-le _ _ (head-within c.write_head-size.
 
 pub put-requires : goal.put-requires
 put-requires c =
-    omega (arith, ap length (head-is c.write_head-size.ensures), ap length (tail-is c.before.before.before), room-for c.before.before.before)
+    omega (arith, ap length (head-is c.write_head-size.ensures), ap length (tail-is c.before.before.before.before), room-for c.before.before.before.before)
 
 pub returns : goal.returns
 returns c =
-    subst (λ bs. Records (fitting (line_of_bytes bs) (start c.before.before.before.before.before.before).args.output.now) c.put.new.output c.put.result)
-    (ap₂ (λ a b. a ++ b) (head-is c.write_head-size.ensures) (tail-is c.before.before.before.before.before.before)) c.put.ensures
+    subst (λ bs. Records (fitting (line_of_bytes bs) (start c.before.before.before.before.before.before.before).args.output.now) c.put.new.output c.put.result)
+    (ap₂ (λ a b. a ++ b) (head-is c.write_head-size.ensures) (tail-is c.before.before.before.before.before.before.before)) c.put.ensures

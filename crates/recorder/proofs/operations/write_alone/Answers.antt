@@ -7,15 +7,20 @@ use lib.ListN.{length}
 use Rattle.answer_bytes.specs.Sizes.{longest_other_answer}
 use Rattle.recorder.specs.Recording.{parts}
 use Rattle.recorder.proofs.OperationFrames.{head-is, head-within, head-size, written, alone-frame}
+use Rattle.recorder.proofs.operations.write_alone.Lts as place
+use Rattle.recorder.proofs.operations.write_alone.Tie as tie
 use Rattle.recorder.proofs.operations.write_alone.Goals as goal
 
-held : (c : goal.After-head-2-1) → length c.write_number-size.new.output ≡ longest_other_answer
+abbrev After-head-2-1 : Type 0
+After-head-2-1 = place.After-head2 tie.the-claims tie.handed_pre tie.handed_post
+
+held : (c : After-head-2-1) → length c.write_number-size.new.output ≡ longest_other_answer
 held c = search rules
 
 pub put-requires : goal.put-requires
 put-requires c =
     let head = c.write_number-size.ensures in
-    omega (arith, head-size head, head-within head, held c.before.before)
+    omega (arith, head-size head, head-within head, held c.before.before.before)
 
 pub returns : goal.returns
 unfolding flat_map

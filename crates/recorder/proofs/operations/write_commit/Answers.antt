@@ -9,9 +9,14 @@ use Rattle.answer_bytes.specs.Sizes.{longest_other_answer}
 use Rattle.answer_bytes.proofs.Arms.{word-is}
 use Rattle.recorder.specs.Recording.{parts}
 use Rattle.recorder.proofs.OperationFrames.{head-is, head-within, head-size, two-values, written, commit-frame}
+use Rattle.recorder.proofs.operations.write_commit.Lts as place
+use Rattle.recorder.proofs.operations.write_commit.Tie as tie
 use Rattle.recorder.proofs.operations.write_commit.Goals as goal
 
-held : (c : goal.After-head-2-1) → length c.write_two_words-size.new.output ≡ longest_other_answer
+abbrev After-head-2-1 : Type 0
+After-head-2-1 = place.After-head2 tie.the-claims tie.handed_pre tie.handed_post
+
+held : (c : After-head-2-1) → length c.write_two_words-size.new.output ≡ longest_other_answer
 held c = search rules
 
 pub slice_bounds-head-end : goal.slice_bounds-head-end
@@ -23,7 +28,7 @@ slice_bounds-put-end c = sym (head-size (c.write_two_words-size.ensures (Identif
 pub put-requires : goal.put-requires
 put-requires c =
     let head = c.write_two_words-size.ensures (Identifier _) (Amount c.args.amount.0) refl (word-is c.word_of-word.ensures) in
-    omega (arith, head-size head, head-within head, held c.before.before)
+    omega (arith, head-size head, head-within head, held c.before.before.before)
 
 pub returns : goal.returns
 returns c =

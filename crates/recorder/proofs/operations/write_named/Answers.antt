@@ -16,7 +16,12 @@ use Rattle.answer_bytes.specs.Sizes.{longest_other_answer}
 use Rattle.answer_bytes.proofs.Arms.{word-is}
 use Rattle.recorder.specs.Recording.{parts}
 use Rattle.recorder.proofs.OperationFrames.{head-is, head-within, head-size, two-values, written, too_long, named-frame}
+use Rattle.recorder.proofs.operations.write_named.Lts as place
+use Rattle.recorder.proofs.operations.write_named.Tie as tie
 use Rattle.recorder.proofs.operations.write_named.Goals as goal
+
+abbrev After-head-2-1 : Type 0
+After-head-2-1 = place.After-head2 tie.the-claims tie.handed_pre tie.handed_post
 
 pub returns-then-name-gt-LONGEST_NAME : goal.returns-then-name-gt-LONGEST_NAME
 returns-then-name-gt-LONGEST_NAME c number =
@@ -27,7 +32,7 @@ returns-then-name-gt-LONGEST_NAME c number =
 pub write_named_word-size-requires : goal.write_named_word-size-requires
 write_named_word-size-requires c = (omega arith, rw (ap (λ n. n.length) c.name_of.ensures) (omega arith))
 
-held : (c : goal.After-head-2-1) → length c.write_named_word-size.new.output ≡ longest_other_answer
+held : (c : After-head-2-1) → length c.write_named_word-size.new.output ≡ longest_other_answer
 held c = search rules
 
 pub slice_bounds-head-end : goal.slice_bounds-head-end
@@ -39,7 +44,7 @@ slice_bounds-put-end c = sym (head-size (c.write_named_word-size.ensures (Amount
 pub put-requires : goal.put-requires
 put-requires c =
     let head = c.write_named_word-size.ensures (Amount c.args.amount.0) (word-is c.word_of-word.ensures) in
-    omega (arith, head-size head, head-within head, held c.before.before)
+    omega (arith, head-size head, head-within head, held c.before.before.before)
 
 pub returns : goal.returns
 returns c number =

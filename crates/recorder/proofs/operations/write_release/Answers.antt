@@ -8,15 +8,20 @@ use Rattle.rules.specs.AnswerNumbers.{Identifier}
 use Rattle.answer_bytes.specs.Sizes.{longest_other_answer}
 use Rattle.recorder.specs.Recording.{parts}
 use Rattle.recorder.proofs.OperationFrames.{head-is, head-within, head-size, one_value, written, release-frame}
+use Rattle.recorder.proofs.operations.write_release.Lts as place
+use Rattle.recorder.proofs.operations.write_release.Tie as tie
 use Rattle.recorder.proofs.operations.write_release.Goals as goal
 
-held : (c : goal.After-head-2-1) → length c.write_word-size.new.output ≡ longest_other_answer
+abbrev After-head-2-1 : Type 0
+After-head-2-1 = place.After-head2 tie.the-claims tie.handed_pre tie.handed_post
+
+held : (c : After-head-2-1) → length c.write_word-size.new.output ≡ longest_other_answer
 held c = search rules
 
 pub put-requires : goal.put-requires
 put-requires c =
     let head = c.write_word-size.ensures (Identifier _) refl in
-    omega (arith, head-size head, head-within head, held c.before.before)
+    omega (arith, head-size head, head-within head, held c.before.before.before)
 
 pub returns : goal.returns
 returns c amount =
