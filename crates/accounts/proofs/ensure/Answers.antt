@@ -32,7 +32,7 @@ abbrev After-seat_at-seat : Type 0
 After-seat_at-seat = place.After-seat_at tie.the-claims tie.handed_pre tie.handed_post
 
 abbrev In-Natural : Type 0
-In-Natural = place.After-known_told tie.the-claims tie.handed_pre tie.handed_post
+In-Natural = place.Past-After-known_told tie.the-claims tie.handed_pre tie.handed_post
 
 abbrev After-ensure : Type 0
 After-ensure = place.After-ensure tie.the-claims tie.handed_pre tie.handed_post
@@ -64,18 +64,18 @@ seen c = record { sound = (entry c).requires; short = c.if-part-gt-LONGEST_NAME.
 
 pub returns-in_default : goal.returns-in_default
 returns-in_default c L room =
-    let z = (entry c.before.before.before.before).args.amount.0 in
-    refuses (op (entry c.before.before.before.before)) L room (seen c.before.before.before.before) (NegativeAmount z) (ensure-negative z _ _ (sign-negative z (told c.sign_of.ensures c.in_default.is)))
+    let z = (entry c.before.before.before).args.amount.0 in
+    refuses (op (entry c.before.before.before)) L room (seen c.before.before.before) (NegativeAmount z) (ensure-negative z _ _ (sign-negative z (told c.sign_of.ensures c.in_default.is)))
 
-amount-is : (c : In-Natural) → (entry c.before.before.before.before).args.amount.0 ≡ pos c.in-Natural.opening
-amount-is c = sign-natural (entry c.before.before.before.before).args.amount.0 _ (told c.sign_of.ensures c.in-Natural.is)
+amount-is : (c : In-Natural) → (entry c.before.before).args.amount.0 ≡ pos c.in-Natural.opening
+amount-is c = sign-natural (entry c.before.before).args.amount.0 _ (told c.sign_of.ensures c.in-Natural.is)
 
 pub ensure-requires : goal.ensure-requires
-ensure-requires c = (seen-sound (seen c.before.before.before.before.before), natural-small _ _ (amount-is c.before) (omega arith))
+ensure-requires c = (seen-sound (seen c.before.before.before), natural-small _ _ (amount-is c.before) (omega arith))
 
 -- what was looked up before the rule decided
 abbrev looked : After-ensure → After-seat_at-seat
-looked c = c.before.before.before.before.before
+looked c = c.before.before.before
 
 -- what the rule decided is a move of the rules
 moves : (c : After-ensure) (m : Ensuring) → c.ensure.result ≡ m →
@@ -86,22 +86,22 @@ moves c m e =
     sym (ap ensuring_move e) ∙ c.ensure.ensures.0 ∙ ap (λ z. ensure_rule z (account_of t) t.limit) (sym (amount-is c.before))
 
 pub returns-in_default-ensure : goal.returns-in_default-ensure
-returns-in_default-ensure c L room = tells (op (entry (looked c.before.before.before))) L room (seen (looked c.before.before.before)) [] (moves c.before.before.before Present c.in_default-ensure.is)
+returns-in_default-ensure c L room = tells (op (entry (looked c.before.before))) L room (seen (looked c.before.before)) [] (moves c.before.before Present c.in_default-ensure.is)
 
 -- the seat that is written
 pub write_seat-requires : goal.write_seat-requires
 write_seat-requires c =
-    ready (seen (looked c.before.before.before.before.before)) (op (entry (looked c.before.before.before.before.before))) [] c.in-Opened.opened (moves c.before.before.before.before.before (Opened c.in-Opened.opened) c.in-Opened.is) (subst EnsuringSound c.in-Opened.is c.ensure.ensures.1)
+    ready (seen (looked c.before.before.before)) (op (entry (looked c.before.before.before))) [] c.in-Opened.opened (moves c.before.before.before (Opened c.in-Opened.opened) c.in-Opened.is) (subst EnsuringSound c.in-Opened.is c.ensure.ensures.1)
 
 written : (c : After-write_seat) →
-    let k = entry (looked c.before.before.before.before.before) in
+    let k = entry (looked c.before.before.before) in
     (L : Ledger) → IsRoom k.args.room.now L → (v : Written) → c.write_seat.result ≡ v → Performed (op k).carry L (written_reply [] v) c.write_seat.new.room
 written c L room v e =
-    answers (op (entry (looked c.before.before.before.before.before))) L room (seen (looked c.before.before.before.before.before)) [] c.in-Opened.opened (moves c.before.before.before.before.before (Opened c.in-Opened.opened) c.in-Opened.is) c.write_seat.new.room c.write_seat.result
+    answers (op (entry (looked c.before.before.before))) L room (seen (looked c.before.before.before)) [] c.in-Opened.opened (moves c.before.before.before (Opened c.in-Opened.opened) c.in-Opened.is) c.write_seat.new.room c.write_seat.result
     (c.write_seat.ensures L room) v e
 
 pub returns-in_default-write_seat : goal.returns-in_default-write_seat
-returns-in_default-write_seat c L room = written c.before.before.before.before.before L room NamesFull c.in_default-write_seat.is
+returns-in_default-write_seat c L room = written c.before.before.before.before L room NamesFull c.in_default-write_seat.is
 
 pub returns : goal.returns
-returns c L room = written c.before.before.before.before.before L room Done c.in-Done.is
+returns c L room = written c.before.before.before.before L room Done c.in-Done.is

@@ -68,22 +68,22 @@ limit-requires c = seen-sound (seen c.before)
 
 pub returns-in_default : goal.returns-in_default
 returns-in_default c L room =
-    refuses (op (entry c.before.before.before.before)) L room (seen c.before.before.before.before) (NegativeAmount (entry c.before.before.before.before).args.amount.0) (moves c.before.before.before Negative c.in_default.is)
+    refuses (op (entry c.before.before.before)) L room (seen c.before.before.before) (NegativeAmount (entry c.before.before.before).args.amount.0) (moves c.before.before Negative c.in_default.is)
 
 -- the seat that is written
 pub write_seat-requires : goal.write_seat-requires
 write_seat-requires c =
-    ready (seen c.before.before.before.before.before.before) (op (entry c.before.before.before.before.before.before)) [] c.in-Changed.changed (moves c.before.before.before.before.before (Changed c.in-Changed.changed) c.in-Changed.is) (subst LimitingSound c.in-Changed.is c.limit.ensures.1)
+    ready (seen c.before.before.before.before) (op (entry c.before.before.before.before)) [] c.in-Changed.changed (moves c.before.before.before (Changed c.in-Changed.changed) c.in-Changed.is) (subst LimitingSound c.in-Changed.is c.limit.ensures.1)
 
 written : (c : After-write_seat) →
-    let k = entry c.before.before.before.before.before.before in
+    let k = entry c.before.before.before.before in
     (L : Ledger) → IsRoom k.args.room.now L → (v : Written) → c.write_seat.result ≡ v → Performed (op k).carry L (written_reply [] v) c.write_seat.new.room
 written c L room v e =
-    answers (op (entry c.before.before.before.before.before.before)) L room (seen c.before.before.before.before.before.before) [] c.in-Changed.changed (moves c.before.before.before.before.before (Changed c.in-Changed.changed) c.in-Changed.is) c.write_seat.new.room c.write_seat.result
+    answers (op (entry c.before.before.before.before)) L room (seen c.before.before.before.before) [] c.in-Changed.changed (moves c.before.before.before (Changed c.in-Changed.changed) c.in-Changed.is) c.write_seat.new.room c.write_seat.result
     (c.write_seat.ensures L room) v e
 
 pub returns-in_default-write_seat : goal.returns-in_default-write_seat
-returns-in_default-write_seat c L room = written c.before.before.before.before.before L room NamesFull c.in_default-write_seat.is
+returns-in_default-write_seat c L room = written c.before.before.before.before L room NamesFull c.in_default-write_seat.is
 
 pub returns : goal.returns
-returns c L room = written c.before.before.before.before.before L room Done c.in-Done.is
+returns c L room = written c.before.before.before.before L room Done c.in-Done.is

@@ -31,13 +31,13 @@ abbrev After-seat_at-seat : Type 0
 After-seat_at-seat = place.After-seat_at tie.the-claims tie.handed_pre tie.handed_post
 
 abbrev In-Amount : Type 0
-In-Amount = place.After-known_told tie.the-claims tie.handed_pre tie.handed_post
+In-Amount = place.Past-After-known_told tie.the-claims tie.handed_pre tie.handed_post
 
 abbrev After-top_up : Type 0
 After-top_up = place.After-top_up tie.the-claims tie.handed_pre tie.handed_post
 
-abbrev In-Grown-2 : Type 0
-In-Grown-2 = place.After-grown tie.the-claims tie.handed_pre tie.handed_post
+abbrev In-Grown : Type 0
+In-Grown = place.Past-After-known_told2 tie.the-claims tie.handed_pre tie.handed_post
 
 fits : (c : After-shared_slice_known-1) → IsBytes c.args.part.now × IsAmount c.args.amount.0
 fits c = (all-bytes c.args.part.now c.shared_slice_known-1.given, amount-fits c.args.amount.0 (omega arith))
@@ -63,27 +63,27 @@ seen c = record { sound = (entry c).requires; short = c.if-part-gt-LONGEST_NAME.
 
 pub returns-in_default : goal.returns-in_default
 returns-in_default c L room =
-    let z = (entry c.before.before.before.before).args.amount.0 in
-    refuses (op (entry c.before.before.before.before)) L room (seen c.before.before.before.before) InvalidAmount (top-up-of-none z _ _ (told c.positive_of.ensures c.in_default.is))
+    let z = (entry c.before.before.before).args.amount.0 in
+    refuses (op (entry c.before.before.before)) L room (seen c.before.before.before) InvalidAmount (top-up-of-none z _ _ (told c.positive_of.ensures c.in_default.is))
 
 -- the amount, which is positive
-amount-is : (c : In-Amount) → let n = c.in-Amount.added in ((entry c.before.before.before.before).args.amount.0 ≡ pos n) × (n ≡ 0 → ⊥)
-amount-is c = positive-is (entry c.before.before.before.before).args.amount.0 _ (told c.positive_of.ensures c.in-Amount.is)
+amount-is : (c : In-Amount) → let n = c.in-Amount.added in ((entry c.before.before).args.amount.0 ≡ pos n) × (n ≡ 0 → ⊥)
+amount-is c = positive-is (entry c.before.before).args.amount.0 _ (told c.positive_of.ensures c.in-Amount.is)
 
 pub returns-in_default-tenant_of : goal.returns-in_default-tenant_of
 returns-in_default-tenant_of c L room =
     let t = c.seat_at-seat.result in
-    refuses (op (entry c.before.before.before.before.before.before.before.before)) L room (seen c.before.before.before.before.before.before.before.before) MissingTenant
-    (top-up-missing t _ _ (amount-is c.before.before.before.before).0 (amount-is c.before.before.before.before).1 (is-missing t (told c.tenant_of.ensures c.in_default-tenant_of.is)))
+    refuses (op (entry c.before.before.before.before.before)) L room (seen c.before.before.before.before.before) MissingTenant
+    (top-up-missing t _ _ (amount-is c.before.before.before).0 (amount-is c.before.before.before).1 (is-missing t (told c.tenant_of.ensures c.in_default-tenant_of.is)))
 
 pub top_up-requires : goal.top_up-requires
 top_up-requires c =
-    let n : c.in-Amount.added ≡ 0 → ⊥ = (amount-is c.before.before.before.before).1 in
-    (seen-sound (seen c.before.before.before.before.before.before.before.before), told c.tenant_of.ensures c.in-Present.is, omega arith)
+    let n : c.in-Amount.added ≡ 0 → ⊥ = (amount-is c.before.before.before).1 in
+    (seen-sound (seen c.before.before.before.before.before), told c.tenant_of.ensures c.in-Present.is, omega arith)
 
 -- what was looked up before the rule decided
 abbrev looked : After-top_up → After-seat_at-seat
-looked c = c.before.before.before.before.before.before.before.before
+looked c = c.before.before.before.before.before
 
 -- what the rule decided is a move of the rules
 moves : (c : After-top_up) (m : ToppingUp) → c.top_up.result ≡ m →
@@ -92,40 +92,40 @@ moves : (c : After-top_up) (m : ToppingUp) → c.top_up.result ≡ m →
     topping_up_move z m ≡ top_up_rule z (account_of t) t.limit
 moves c m e =
     let t = (looked c).seat_at-seat.result in
-    let z = (amount-is c.before.before.before.before).0 in
+    let z = (amount-is c.before.before.before).0 in
     sym (ap (topping_up_move (entry (looked c)).args.amount.0) e)
     ∙ subst (λ n. topping_up_move n c.top_up.result ≡ top_up_rule n (account_of t) t.limit) (sym z) c.top_up.ensures.0
 
 pub returns-in_default-top_up : goal.returns-in_default-top_up
-returns-in_default-top_up c L room = refuses (op (entry (looked c.before.before.before))) L room (seen (looked c.before.before.before)) OverflowOfTopUp (moves c.before.before.before Overflow c.in_default-top_up.is)
+returns-in_default-top_up c L room = refuses (op (entry (looked c.before.before))) L room (seen (looked c.before.before)) OverflowOfTopUp (moves c.before.before Overflow c.in_default-top_up.is)
 
 -- ── the seat that is written ───────────────────────────────────────────────────────────────────
 
-abbrev grown : In-Grown-2 → Seat
+abbrev grown : In-Grown → Seat
 grown t = t.in-Grown.grown
 
 -- what a top_up carries
-abbrev carried : In-Grown-2 → List ℤ
-carried t = (entry (looked t.before.before)).args.amount.0 ∷ pos (grown t).initial ∷ pos (grown t).remaining ∷ []
+abbrev carried : In-Grown → List ℤ
+carried t = (entry (looked t.before)).args.amount.0 ∷ pos (grown t).initial ∷ pos (grown t).remaining ∷ []
 
-known : (t : In-Grown-2) → SeatSound (grown t)
+known : (t : In-Grown) → SeatSound (grown t)
 known t = subst ToppingUpSound t.in-Grown.is t.top_up.ensures.1
 
 pub write_seat-requires : goal.write_seat-requires
 write_seat-requires c =
-    ready (seen (looked c.before.before.before.before.before)) (op (entry (looked c.before.before.before.before.before))) (carried c.before.before.before) (grown c.before.before.before) (moves c.before.before.before.before.before (Grown (grown c.before.before.before)) c.in-Grown.is) (known c.before.before.before)
+    ready (seen (looked c.before.before.before)) (op (entry (looked c.before.before.before))) (carried c.before.before) (grown c.before.before) (moves c.before.before.before (Grown (grown c.before.before)) c.in-Grown.is) (known c.before.before)
 
 pub amount-requires : goal.amount-requires
-amount-requires c = (seat-small (grown c.before.before.before.before.before.before) (known c.before.before.before.before.before.before)).initial
+amount-requires c = (seat-small (grown c.before.before.before.before.before) (known c.before.before.before.before.before)).initial
 
 pub amount-requires-2 : goal.amount-requires-2
-amount-requires-2 c = (seat-small (grown c.before.before.before.before.before.before.before) (known c.before.before.before.before.before.before.before)).remaining
+amount-requires-2 c = (seat-small (grown c.before.before.before.before.before.before) (known c.before.before.before.before.before.before)).remaining
 
 pub returns : goal.returns
 returns c L room =
-    let k = looked c.before.before.before.before.before.before.before.before.before.before in
+    let k = looked c.before.before.before.before.before.before.before.before in
     let z = (entry k).args.amount.0 in
-    let move = moves c.before.before.before.before.before.before.before.before.before.before (Grown (grown c.before.before.before.before.before.before.before.before)) c.in-Grown.is in
-    let has = (top-up-writes z (account_of k.seat_at-seat.result) k.seat_at-seat.result.limit (carried c.before.before.before.before.before.before.before.before) (meaning (grown c.before.before.before.before.before.before.before.before)) move).0 in
-    let done = writes-held (op (entry k)) L room (seen k) (carried c.before.before.before.before.before.before.before.before) (grown c.before.before.before.before.before.before.before.before) move c.write_seat.new.room c.write_seat.result (c.write_seat.ensures L room) has in
+    let move = moves c.before.before.before.before.before.before.before.before (Grown (grown c.before.before.before.before.before.before.before)) c.in-Grown.is in
+    let has = (top-up-writes z (account_of k.seat_at-seat.result) k.seat_at-seat.result.limit (carried c.before.before.before.before.before.before.before) (meaning (grown c.before.before.before.before.before.before.before)) move).0 in
+    let done = writes-held (op (entry k)) L room (seen k) (carried c.before.before.before.before.before.before.before) (grown c.before.before.before.before.before.before.before) move c.write_seat.new.room c.write_seat.result (c.write_seat.ensures L room) has in
     subst (λ zs. Performed (op (entry k)).carry L (done_with zs) c.write_seat.new.room) (sym (λ i. z ∷ c.amount.ensures i ∷ c.amount-2.ensures i ∷ [])) done

@@ -22,8 +22,8 @@ use Rattle.certificates.proofs.of_ledger.Goals as goal
 abbrev Start : Type 0
 Start = place.Start tie.the-claims tie.handed_pre tie.handed_post
 
-abbrev In-Taken-2 : Type 0
-In-Taken-2 = place.After-summary tie.the-claims tie.handed_pre tie.handed_post
+abbrev In-Taken : Type 0
+In-Taken = place.Past-After-known_told tie.the-claims tie.handed_pre tie.handed_post
 
 abbrev After-rotation-rotated : Type 0
 After-rotation-rotated = place.After-rotation tie.the-claims tie.handed_pre tie.handed_post
@@ -35,14 +35,14 @@ room s = s.args.room.now
 pub returns-in_default : goal.returns-in_default
 unfolding certificate_of_ledger
 returns-in_default c L r =
-    stays (room c.before.before.before.before) L r certificate_of_ledger _ refl (told-exhausted L c.summarize.result (c.summarize.ensures L r) c.in_default.is)
+    stays (room c.before.before.before) L r certificate_of_ledger _ refl (told-exhausted L c.summarize.result (c.summarize.ensures L r) c.in_default.is)
 
 module _ (c : After-rotation-rotated) where
-  abbrev summed : In-Taken-2
-  summed = c.before.before.before
+  abbrev summed : In-Taken
+  summed = c.before.before
 
   abbrev start : Start
-  start = summed.before.before.before.before
+  start = summed.before.before.before
 
   module _ (L : Ledger) (r : IsRoom (room start) L) where
     taken : Taking L summed.in-Taken.summary

@@ -18,8 +18,8 @@ use Rattle.certificates.proofs.prove.Goals as goal
 abbrev Start : Type 0
 Start = place.Start tie.the-claims tie.handed_pre tie.handed_post
 
-abbrev In-Taken-2 : Type 0
-In-Taken-2 = place.After-summary tie.the-claims tie.handed_pre tie.handed_post
+abbrev In-Taken : Type 0
+In-Taken = place.Past-After-known_told tie.the-claims tie.handed_pre tie.handed_post
 
 abbrev After-put_head-arg-1 : Type 0
 After-put_head-arg-1 = place.After-put_head-arg tie.the-claims tie.handed_pre tie.handed_post
@@ -31,14 +31,14 @@ room s = s.args.room.now
 pub returns-in_default : goal.returns-in_default
 unfolding conservation_proof
 returns-in_default c L r =
-    stays (room c.before.before.before.before) L r conservation_proof _ refl (told-exhausted L c.summarize.result (c.summarize.ensures L r) c.in_default.is)
+    stays (room c.before.before.before) L r conservation_proof _ refl (told-exhausted L c.summarize.result (c.summarize.ensures L r) c.in_default.is)
 
 module _ (c : After-put_head-arg-1) where
-  abbrev summed : In-Taken-2
-  summed = c.before.before.before
+  abbrev summed : In-Taken
+  summed = c.before.before
 
   abbrev start : Start
-  start = summed.before.before.before.before
+  start = summed.before.before.before
 
   abbrev summary : Summary
   summary = summed.in-Taken.summary
@@ -52,15 +52,15 @@ put_head-requires c = let s = start c in sized (room s) s.requires.ledger s.requ
 -- the totals do not fit, and the head is stamped
 pub returns-in_default-totals : goal.returns-in_default-totals
 returns-in_default-totals c L r =
-    let t = taken c.before.before.before.before.before.before L r in
-    let outside = told-outside (account_rows L.places) (summary c.before.before.before.before.before.before).totals (ap (λ s. s.totals) t.summary) c.in_default-totals.is in
-    becomes (room (start c.before.before.before.before.before.before)) L r conservation_proof (proof-sound L r.sound) _ _ (summary c.before.before.before.before.before.before).head (summary_of L).head (proof-overflows L t.not_last outside) refl
+    let t = taken c.before.before.before.before.before L r in
+    let outside = told-outside (account_rows L.places) (summary c.before.before.before.before.before).totals (ap (λ s. s.totals) t.summary) c.in_default-totals.is in
+    becomes (room (start c.before.before.before.before.before)) L r conservation_proof (proof-sound L r.sound) _ _ (summary c.before.before.before.before.before).head (summary_of L).head (proof-overflows L t.not_last outside) refl
     (ap (λ s. s.head) t.summary) c.put_head.new.room c.put_head.ensures
 
 pub returns : goal.returns
 returns c L r =
     let totals = c.totals-1 in
-    let t = taken c.before.before.before.before.before.before.before L r in
-    let fitting = told_fit (account_rows L.places) (summary c.before.before.before.before.before.before.before).totals (ap (λ s. s.totals) t.summary) _ _ totals.given.1 in
-    becomes (room (start c.before.before.before.before.before.before.before)) L r conservation_proof (proof-sound L r.sound) _ _ (summary c.before.before.before.before.before.before.before).head (summary_of L).head (proof-is L t.not_last _ _ fitting)
+    let t = taken c.before.before.before.before.before L r in
+    let fitting = told_fit (account_rows L.places) (summary c.before.before.before.before.before).totals (ap (λ s. s.totals) t.summary) _ _ totals.given.1 in
+    becomes (room (start c.before.before.before.before.before)) L r conservation_proof (proof-sound L r.sound) _ _ (summary c.before.before.before.before.before).head (summary_of L).head (proof-is L t.not_last _ _ fitting)
     (ap (λ s. proved s totals.given.0.0 totals.given.0.1.0) t.summary) (ap (λ s. s.head) t.summary) c.put_head.new.room c.put_head.ensures

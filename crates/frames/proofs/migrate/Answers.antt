@@ -67,10 +67,10 @@ unfolding reply_or
 returns c s e =
     let j = c.migrate-judged.result in
     let passes : refusal_in j ≡ none = ap (refusal_of (spelled j.name)) c.in-Done.is in
-    let room : 1 ≤ length (output c.before.before.before.before.before.before.before.before.before) = omega (arith, (start c.before.before.before.before.before.before.before.before.before).requires.1) in
-    let handed = take (length (bytes c.before.before.before.before.before.before.before.before.before)) (after c.before.before.before.before.before.before.before.before.before) in
+    let room : 1 ≤ length (output c.before.before.before.before.before.before.before.before) = omega (arith, (start c.before.before.before.before.before.before.before.before).requires.1) in
+    let handed = take (length (bytes c.before.before.before.before.before.before.before.before)) (after c.before.before.before.before.before.before.before.before) in
     let answer : Option Refusal → Reply = λ o. reply_or o (done (SnapshotBytes handed ∷ [])) in
-    let is_done : done (SnapshotBytes handed ∷ []) ≡ migrate longest_snapshot (start c.before.before.before.before.before.before.before.before.before).args.fence s = ap answer (sym passes) ∙ answers c.before.before.before.before.before.before.before.before.before s e in
-    let size : length handed ≡ length (bytes c.before.before.before.before.before.before.before.before.before) = ap length (hands_out longest_snapshot (start c.before.before.before.before.before.before.before.before.before).args.fence s handed is_done) ∙ migrated-length (bytes c.before.before.before.before.before.before.before.before.before) (all_known c.before.before.before.before.before.before.before.before.before) s e (tagged (start c.before.before.before.before.before.before.before.before.before).args.fence) in
-    let kept : after c.before.before.before.before.before.before.before.before.before ≡ handed ++ drop (length handed) (part (output c.before.before.before.before.before.before.before.before.before)) = c.migrate-judged.ensures.output.0 ∙ ap (λ o. output_after (answer o) (part (output c.before.before.before.before.before.before.before.before.before))) passes in
-    matched (sym is_done) (number-before (output c.before.before.before.before.before.before.before.before.before) room handed size kept c.write1.ensures)
+    let is_done : done (SnapshotBytes handed ∷ []) ≡ migrate longest_snapshot (start c.before.before.before.before.before.before.before.before).args.fence s = ap answer (sym passes) ∙ answers c.before.before.before.before.before.before.before.before s e in
+    let size : length handed ≡ length (bytes c.before.before.before.before.before.before.before.before) = ap length (hands_out longest_snapshot (start c.before.before.before.before.before.before.before.before).args.fence s handed is_done) ∙ migrated-length (bytes c.before.before.before.before.before.before.before.before) (all_known c.before.before.before.before.before.before.before.before) s e (tagged (start c.before.before.before.before.before.before.before.before).args.fence) in
+    let kept : after c.before.before.before.before.before.before.before.before ≡ handed ++ drop (length handed) (part (output c.before.before.before.before.before.before.before.before)) = c.migrate-judged.ensures.output.0 ∙ ap (λ o. output_after (answer o) (part (output c.before.before.before.before.before.before.before.before))) passes in
+    matched (sym is_done) (number-before (output c.before.before.before.before.before.before.before.before) room handed size kept c.write1.ensures)

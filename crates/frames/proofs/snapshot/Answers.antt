@@ -62,7 +62,7 @@ returns-in_default c L is_room =
 
 pub overflow_add-result : goal.overflow_add-result
 overflow_add-result c =
-    let known : 1 + c.in-Written.size ≤ length (output c.before.before.before.before.before.before.before.before.before.before.before.before) = within c.before.before.before.before.before.before.before.before.before.before.before.before c.in-Written.is in
+    let known : 1 + c.in-Written.size ≤ length (output c.before.before.before.before.before.before.before.before.before.before) = within c.before.before.before.before.before.before.before.before.before.before c.in-Written.is in
     search rules
 
 pub returns : goal.returns
@@ -70,8 +70,8 @@ unfolding answer
 returns c L is_room =
     let size = c.in-Written.size in
     let is : c.snapshot.result ≡ snapshotted.Written size = c.in-Written.is in
-    let handed = take size (after c.before.before.before.before.before.before.before.before.before.before.before.before) in
-    let long : length handed ≡ size = length-take-le size (after c.before.before.before.before.before.before.before.before.before.before.before.before) (omega (arith, within c.before.before.before.before.before.before.before.before.before.before.before.before is, c.snapshot.auto, part_length (output c.before.before.before.before.before.before.before.before.before.before.before.before) (room c.before.before.before.before.before.before.before.before.before.before.before.before))) in
-    let kept = c.snapshot.ensures.output.0 ∙ ap (λ x. output_after (snapshot_reply (after c.before.before.before.before.before.before.before.before.before.before.before.before) x) (part (output c.before.before.before.before.before.before.before.before.before.before.before.before))) is in
-    performed (subst (λ x. Performed (snapshot longest_snapshot) L (snapshot_reply (after c.before.before.before.before.before.before.before.before.before.before.before.before) x) c.snapshot.new.room) is (performs c.before.before.before.before.before.before.before.before.before.before.before.before L is_room))
-    (number-before (output c.before.before.before.before.before.before.before.before.before.before.before.before) (room c.before.before.before.before.before.before.before.before.before.before.before.before) handed long kept c.write1.ensures) refl
+    let handed = take size (after c.before.before.before.before.before.before.before.before.before.before) in
+    let long : length handed ≡ size = length-take-le size (after c.before.before.before.before.before.before.before.before.before.before) (omega (arith, within c.before.before.before.before.before.before.before.before.before.before is, c.snapshot.auto, part_length (output c.before.before.before.before.before.before.before.before.before.before) (room c.before.before.before.before.before.before.before.before.before.before))) in
+    let kept = c.snapshot.ensures.output.0 ∙ ap (λ x. output_after (snapshot_reply (after c.before.before.before.before.before.before.before.before.before.before) x) (part (output c.before.before.before.before.before.before.before.before.before.before))) is in
+    performed (subst (λ x. Performed (snapshot longest_snapshot) L (snapshot_reply (after c.before.before.before.before.before.before.before.before.before.before) x) c.snapshot.new.room) is (performs c.before.before.before.before.before.before.before.before.before.before L is_room))
+    (number-before (output c.before.before.before.before.before.before.before.before.before.before) (room c.before.before.before.before.before.before.before.before.before.before) handed long kept c.write1.ensures) refl

@@ -51,32 +51,32 @@ module _ (c : After-slice_known-1) where
 
 pub migrate-requires : goal.migrate-requires
 migrate-requires c =
-    let stands = parts c.before.before.before.before.before.before c.in-Migrate.is in
-    (is-snapshot stands, subst (λ o. room_for o ≤ length (output c.before.before.before.before.before.before)) (supplied-is stands (migrate_to _)) (room c.before.before.before.before.before.before c.in-Migrate.is))
+    let stands = parts c.before.before.before.before c.in-Migrate.is in
+    (is-snapshot stands, subst (λ o. room_for o ≤ length (output c.before.before.before.before)) (supplied-is stands (migrate_to _)) (room c.before.before.before.before c.in-Migrate.is))
 
 pub certificate_of_snapshot-requires : goal.certificate_of_snapshot-requires
-certificate_of_snapshot-requires c = (is-snapshot (parts c.before.before.before.before.before.before c.in-CertificateOfSnapshot.is), enough c.before.before.before.before.before.before)
+certificate_of_snapshot-requires c = (is-snapshot (parts c.before.before.before.before c.in-CertificateOfSnapshot.is), enough c.before.before.before.before)
 
 pub status-requires : goal.status-requires
-status-requires c = (is-snapshot (parts c.before.before.before.before.before c.in-Status.is), enough c.before.before.before.before.before)
+status-requires c = (is-snapshot (parts c.before.before.before.before c.in-Status.is), enough c.before.before.before.before)
 
 pub returns-in-Migrate : goal.returns-in-Migrate
 unfolding answer
 returns-in-Migrate c =
-    told c.before.before.before.before.before.before.before.before.before c.in-Migrate.is (writes-supplied (parts c.before.before.before.before.before.before.before.before.before c.in-Migrate.is) (migrate_to _) c.migrate.ensures)
+    told c.before.before.before.before.before.before.before c.in-Migrate.is (writes-supplied (parts c.before.before.before.before.before.before.before c.in-Migrate.is) (migrate_to _) c.migrate.ensures)
 
 pub returns-in-CertificateOfSnapshot : goal.returns-in-CertificateOfSnapshot
 unfolding answer
 returns-in-CertificateOfSnapshot c =
-    told c.before.before.before.before.before.before.before.before.before c.in-CertificateOfSnapshot.is (writes-supplied (parts c.before.before.before.before.before.before.before.before.before c.in-CertificateOfSnapshot.is) (certify _) c.certificate_of_snapshot.ensures)
+    told c.before.before.before.before.before.before.before c.in-CertificateOfSnapshot.is (writes-supplied (parts c.before.before.before.before.before.before.before c.in-CertificateOfSnapshot.is) (certify _) c.certificate_of_snapshot.ensures)
 
 pub returns-in-Status : goal.returns-in-Status
 unfolding answer
 returns-in-Status c =
-    told c.before.before.before.before.before.before.before.before c.in-Status.is (writes-supplied (parts c.before.before.before.before.before.before.before.before c.in-Status.is) judge c.status.ensures)
+    told c.before.before.before.before.before.before.before c.in-Status.is (writes-supplied (parts c.before.before.before.before.before.before.before c.in-Status.is) judge c.status.ensures)
 
 pub returns-in-BadFrame : goal.returns-in-BadFrame
-returns-in-BadFrame c = told c.before.before.before.before.before.before.before c.in-BadFrame.is c.write_number.ensures
+returns-in-BadFrame c = told c.before.before.before.before.before.before c.in-BadFrame.is c.write_number.ensures
 
 pub returns-in_default : goal.returns-in_default
 returns-in_default c =
@@ -84,25 +84,25 @@ returns-in_default c =
     matched (refuses (bytes c.before.before.before.before.before.before) entry.args.frame c.in-Migrate.keys5 entry.requires.0) c.write_number-in_default.ensures
 
 pub slice_bounds-migrate-count : goal.slice_bounds-migrate-count
-slice_bounds-migrate-count c = (parts c.before.before.before.before c.in-Migrate.is).within
+slice_bounds-migrate-count c = (parts c.before.before c.in-Migrate.is).within
 
 pub slice_bounds-migrate-start : goal.slice_bounds-migrate-start
-slice_bounds-migrate-start c = (parts c.before.before.before.before c.in-Migrate.is).within
+slice_bounds-migrate-start c = (parts c.before.before c.in-Migrate.is).within
 
 pub slice_bounds-certificate_of_snapshot-count : goal.slice_bounds-certificate_of_snapshot-count
-slice_bounds-certificate_of_snapshot-count c = (parts c.before.before.before.before c.in-CertificateOfSnapshot.is).within
+slice_bounds-certificate_of_snapshot-count c = (parts c.before.before c.in-CertificateOfSnapshot.is).within
 
 pub slice_bounds-certificate_of_snapshot-start : goal.slice_bounds-certificate_of_snapshot-start
-slice_bounds-certificate_of_snapshot-start c = (parts c.before.before.before.before c.in-CertificateOfSnapshot.is).within
+slice_bounds-certificate_of_snapshot-start c = (parts c.before.before c.in-CertificateOfSnapshot.is).within
 
 pub slice_bounds-status-count : goal.slice_bounds-status-count
-slice_bounds-status-count c = (parts c.before.before.before c.in-Status.is).within
+slice_bounds-status-count c = (parts c.before.before c.in-Status.is).within
 
 pub slice_bounds-status-start : goal.slice_bounds-status-start
-slice_bounds-status-start c = (parts c.before.before.before c.in-Status.is).within
+slice_bounds-status-start c = (parts c.before.before c.in-Status.is).within
 
 pub write_number-requires : goal.write_number-requires
-write_number-requires c = omega (arith, enough c.before.before.before.before)
+write_number-requires c = omega (arith, enough c.before.before.before)
 
 pub write_number-requires-in_default : goal.write_number-requires-in_default
 write_number-requires-in_default c = omega (arith, enough c.before.before.before)

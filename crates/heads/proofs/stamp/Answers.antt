@@ -19,7 +19,7 @@ abbrev After-after_draw-drawn : Type 0
 After-after_draw-drawn = place.After-after_draw tie.the-claims tie.handed_pre tie.handed_post
 
 abbrev In-Identifier : Type 0
-In-Identifier = place.After-known_told tie.the-claims tie.handed_pre tie.handed_post
+In-Identifier = place.Past-After-known_told tie.the-claims tie.handed_pre tie.handed_post
 
 pub returns-in_default : goal.returns-in_default
 returns-in_default c =
@@ -28,7 +28,7 @@ returns-in_default c =
 
 module _ (c : In-Identifier) where
   abbrev drew : After-after_draw-drawn
-  drew = c.before.before.before
+  drew = c.before
 
   abbrev head : Head
   head = drew.args.head

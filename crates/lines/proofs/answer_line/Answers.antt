@@ -40,20 +40,20 @@ returns-then-line-gt-LONGEST_LINE c l is_lent =
 
 pub returns-in_default : goal.returns-in_default
 returns-in_default c l is_lent =
-    let s = start c.before.before.before.before.before.before.before.before.before in
-    let no_bytes = has-none s.args.work.now (work c.before.before.before.before.before.before.before.before.before) (bytes_of_line (line c.before.before.before.before.before.before.before.before.before)) c.bytes_of_line.ensures c.in_default.is in
-    subst (λ o. LineAnswered o l s.args.room.now s.args.room.now s.args.output.now c.answer_no_frame-in_default.new.output c.answer_no_frame-in_default.result) (sym (no-bytes-no-frame (line c.before.before.before.before.before.before.before.before.before) no_bytes))
+    let s = start c.before.before.before.before.before.before.before.before in
+    let no_bytes = has-none s.args.work.now (work c.before.before.before.before.before.before.before.before) (bytes_of_line (line c.before.before.before.before.before.before.before.before)) c.bytes_of_line.ensures c.in_default.is in
+    subst (λ o. LineAnswered o l s.args.room.now s.args.room.now s.args.output.now c.answer_no_frame-in_default.new.output c.answer_no_frame-in_default.result) (sym (no-bytes-no-frame (line c.before.before.before.before.before.before.before.before) no_bytes))
     (c.answer_no_frame-in_default.ensures s.args.room.now l is_lent)
 
 pub slice_bounds-answer_frame-end : goal.slice_bounds-answer_frame-end
-slice_bounds-answer_frame-end c = (front c.before.before.before.before.before.before.before c.in-Bytes.is).within
+slice_bounds-answer_frame-end c = (front c.before.before.before.before.before c.in-Bytes.is).within
 
 pub slice_bounds-answer_frame-end-2 : goal.slice_bounds-answer_frame-end-2
-slice_bounds-answer_frame-end-2 c = sym (length-take-le c.in-Bytes.size (work c.before.before.before.before.before.before.before) (slice_bounds-answer_frame-end c.before))
+slice_bounds-answer_frame-end-2 c = sym (length-take-le c.in-Bytes.size (work c.before.before.before.before.before) (slice_bounds-answer_frame-end c.before))
 
 pub returns : goal.returns
 returns c l is_lent =
-    let s = start c.before.before.before.before.before.before.before.before.before.before.before.before.before in
+    let s = start c.before.before.before.before.before.before.before.before.before.before.before in
     subst (λ o. LineAnswered o l s.args.room.now c.answer_frame.new.room s.args.output.now c.answer_frame.new.output c.answer_frame.result)
-    (sym (line-as-frame (line c.before.before.before.before.before.before.before.before.before.before.before.before.before) _ (front c.before.before.before.before.before.before.before.before.before.before.before.before.before c.in-Bytes.is).are))
+    (sym (line-as-frame (line c.before.before.before.before.before.before.before.before.before.before.before) _ (front c.before.before.before.before.before.before.before.before.before.before.before c.in-Bytes.is).are))
     (c.answer_frame.ensures l is_lent)

@@ -32,10 +32,10 @@ abbrev After-answer_next : Type 0
 After-answer_next = place.After-answer_next tie.the-claims tie.handed_pre tie.handed_post goal.the-invariant-loop-used goal.the-decreases-loop-used
 
 abbrev In-Answered : Type 0
-In-Answered = place.After-known_told tie.the-claims tie.handed_pre tie.handed_post goal.the-invariant-loop-used goal.the-decreases-loop-used
+In-Answered = place.Past-After-known_told tie.the-claims tie.handed_pre tie.handed_post goal.the-invariant-loop-used goal.the-decreases-loop-used
 
 abbrev In_default : Type 0
-In_default = place.After-enum_told tie.the-claims tie.handed_pre tie.handed_post goal.the-invariant-loop-used goal.the-decreases-loop-used
+In_default = place.Past-After-enum_told tie.the-claims tie.handed_pre tie.handed_post goal.the-invariant-loop-used goal.the-decreases-loop-used
 
 abbrev entry : At-loop-used → Start
 entry l = l.before.before.before.before.before
@@ -79,7 +79,7 @@ module _ (c : After-answer_next) where
         (subst (NextAnswered l (part_from turn-of.loop-used.used (entry turn-of).args.input.now) turn-of.loop-used.room after part part-after) is (c.answer_next.ensures.answered l lent))
 
 abbrev asked : In_default → After-answer_next
-asked c = c.before.before.before.before.before.before.before.before
+asked c = c.before.before.before.before.before.before.before
 
 pub returns-in_default : goal.returns-in_default
 returns-in_default c =
@@ -90,7 +90,7 @@ returns-in_default c =
 
 module _ (c : In-Answered) where
   abbrev answer : After-answer_next
-  answer = c.before.before.before.before.before.before.before.before.before
+  answer = c.before.before.before.before.before.before.before
 
   abbrev end : ℕ
   end = c.in-Answered.end

@@ -31,7 +31,7 @@ abbrev After-line_end : Type 0
 After-line_end = place.After-line_end tie.the-claims tie.handed_pre tie.handed_post
 
 abbrev In-At : Type 0
-In-At = place.After-known_told tie.the-claims tie.handed_pre tie.handed_post
+In-At = place.Past-After-known_told tie.the-claims tie.handed_pre tie.handed_post
 
 module _ (c : After-front_limit-limit) where
   abbrev start : Start
@@ -61,7 +61,7 @@ module _ (c : After-front_bytes-size) where
 
 module _ (c : In-At) where
   abbrev looked : After-line_end
-  looked = c.before.before.before
+  looked = c.before
 
   abbrev read : After-front_bytes-size
   read = looked.before.before.before
@@ -86,8 +86,8 @@ line_end-requires c = let s = shortened c.before.before.before in omega (arith, 
 
 pub returns-in_default : goal.returns-in_default
 returns-in_default c =
-    let s = shortened c.before.before.before.before.before.before in
-    let is_line = subst (FirstFeed (input s) (size c.before.before.before.before.before.before + size c.before.before.before.before.before.before)) c.in_default.is c.line_end.ensures in record { found = tt; answered = λ _ _. (refl, refl, inl (no_line (input s) (size c.before.before.before.before.before.before + size c.before.before.before.before.before.before) (front-line (input s) (limit s) s.front_limit-limit.ensures.0 (front c.before.before.before.before.before.before)) is_line)) }
+    let s = shortened c.before.before.before.before.before in
+    let is_line = subst (FirstFeed (input s) (size c.before.before.before.before.before + size c.before.before.before.before.before)) c.in_default.is c.line_end.ensures in record { found = tt; answered = λ _ _. (refl, refl, inl (no_line (input s) (size c.before.before.before.before.before + size c.before.before.before.before.before) (front-line (input s) (limit s) s.front_limit-limit.ensures.0 (front c.before.before.before.before.before)) is_line)) }
 
 pub returns-then-from-end : goal.returns-then-from-end
 returns-then-from-end c =

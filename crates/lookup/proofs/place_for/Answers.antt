@@ -62,7 +62,7 @@ returns-in_default c =
 
 pub loop-i-preserved : goal.loop-i-preserved
 loop-i-preserved c =
-    (omega arith, below_more _ c.loop-i.i c.loop-i.invariant.1 (sym (compared c.before.before.before) ∙ ap ordering_of c.in-Before.is))
+    (omega arith, below_more _ c.loop-i.i c.loop-i.invariant.1 (sym (compared c.before.before) ∙ ap ordering_of c.in-Before.is))
 
 pub returns : goal.returns
 returns c =

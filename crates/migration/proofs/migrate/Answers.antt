@@ -28,7 +28,7 @@ abbrev After-refusal-judged : Type 0
 After-refusal-judged = place.After-refusal tie.the-claims tie.handed_pre tie.handed_post
 
 abbrev In-Done : Type 0
-In-Done = place.After-enum_told tie.the-claims tie.handed_pre tie.handed_post
+In-Done = place.Past-After-enum_told tie.the-claims tie.handed_pre tie.handed_post
 
 abbrev After-write_migrated : Type 0
 After-write_migrated = place.After-write_migrated tie.the-claims tie.handed_pre tie.handed_post
@@ -48,7 +48,7 @@ returns-in_default c =
 passes : (c : In-Done) → refusal_in c.refusal-judged.result ≡ none
 passes c = ap (refusal_of (spelled c.refusal-judged.result.name)) c.in-Done.is
 
-room : (c : In-Done) → let a = (start c.before.before).args in (a.fence ≤ M) × (length a.bytes.now ≤ length a.output.now)
+room : (c : In-Done) → let a = (start c.before).args in (a.fence ≤ M) × (length a.bytes.now ≤ length a.output.now)
 room c = c.refusal-judged.ensures.room.0 (passes c)
 
 module _ (c : After-write_migrated) where
@@ -56,13 +56,13 @@ module _ (c : After-write_migrated) where
   told = c.before.before.before
 
   abbrev bytes : List ℕ
-  bytes = (start told.before.before).args.bytes.now
+  bytes = (start told.before).args.bytes.now
 
   abbrev output : List ℕ
-  output = (start told.before.before).args.output.now
+  output = (start told.before).args.output.now
 
   abbrev fence : ℕ
-  fence = (start told.before.before).args.fence
+  fence = (start told.before).args.fence
 
   abbrev after : List ℕ
   after = c.write_migrated.new.output
@@ -93,7 +93,7 @@ pub returns : goal.returns
 unfolding reply_or
 returns c =
     let judged = (told c.before.before.before).refusal-judged in
-    let pre = (start (told c.before.before.before).before.before).requires in
+    let pre = (start (told c.before.before.before).before).requires in
     let answer : Option Refusal → List ℕ → Reply = λ o handed. reply_or o (done (SnapshotBytes handed ∷ [])) in
     let kept-output = kept c.before.before.before pre.snapshot pre.is_read ∙ ap (λ o. output_after (answer o (take (length (bytes c.before.before.before)) (after c.before.before.before))) (output c.before.before.before)) (sym (passes (told c.before.before.before))) in
     (λ s e. ap (answer (refusal_in judged.result)) (front c.before.before.before s e) ∙ judged.ensures.0 s e, (kept-output, judged.ensures.1.1))
@@ -102,4 +102,4 @@ pub tagged-version-requires : goal.tagged-version-requires
 tagged-version-requires c = (room c.before).0
 
 pub write_migrated-requires : goal.write_migrated-requires
-write_migrated-requires c = (omega (arith, is-long _ (start c.before.before.before.before.before).requires), (room c.before.before.before).1)
+write_migrated-requires c = (omega (arith, is-long _ (start c.before.before.before.before).requires), (room c.before.before.before).1)

@@ -47,10 +47,10 @@ abbrev Else-fence-gt-M : Type 0
 Else-fence-gt-M = place.Else4 tie.the-claims tie.handed_pre tie.handed_post
 
 abbrev In-Done : Type 0
-In-Done = place.After-enum_told tie.the-claims tie.handed_pre tie.handed_post
+In-Done = place.Past-After-enum_told tie.the-claims tie.handed_pre tie.handed_post
 
 abbrev In_default : Type 0
-In_default = place.At-match-keys2 tie.the-claims tie.handed_pre tie.handed_post
+In_default = place.Past-At-match-keys2 tie.the-claims tie.handed_pre tie.handed_post
 
 abbrev After-nameless-2 : Type 0
 After-nameless-2 = place.After-nameless6 tie.the-claims tie.handed_pre tie.handed_post
@@ -142,24 +142,24 @@ returns-in_default c =
     (answers, (λ passes. none-some (sym passes ∙ (not_done c.before).is), judged.ensures.1))
 
 -- the validation passes too: the room decides, and it is asked of the bytes supplied
-module _ (c : In-Done) (s : Snapshot) (e : Read (start c.before.before.before) s) where
+module _ (c : In-Done) (s : Snapshot) (e : Read (start c.before.before) s) where
   abbrev size : ℕ
-  size = (start c.before.before.before).args.size
+  size = (start c.before.before).args.size
 
   abbrev fence : ℕ
-  fence = (start c.before.before.before).args.fence
+  fence = (start c.before.before).args.fence
 
   abbrev bytes : List ℕ
-  bytes = (start c.before.before.before).args.bytes.now
+  bytes = (start c.before.before).args.bytes.now
 
   by-room : (o : Option Refusal) → o ≡ room_for size fence s → Decided size fence s o
   by-room o is =
       let judged = c.validation-judged in
       let j = judged.result in
-      validated size fence s (passed c.before.before.before s e) _ (judged.ensures.0 s e) o (is ∙ sym (passes_on (spelled j.name) j.verdict _ c.in-Done.is))
+      validated size fence s (passed c.before.before s e) _ (judged.ensures.0 s e) o (is ∙ sym (passes_on (spelled j.name) j.verdict _ c.in-Done.is))
 
   as_long : length (snapshot_bytes (with_version (tagged fence) s)) ≡ length bytes
-  as_long = migrated-length bytes (all-bytes bytes (entry c.before.before.before).shared_slice_known-1.given) s e (tagged fence)
+  as_long = migrated-length bytes (all-bytes bytes (entry c.before.before).shared_slice_known-1.given) s e (tagged fence)
 
   short-room : size < length bytes → Decided size fence s (some OutputTooShort)
   short-room h = by-room _ (sym (decides _ _ _ (lt-ltb size _ (omega (arith, as_long)))))
@@ -169,11 +169,11 @@ module _ (c : In-Done) (s : Snapshot) (e : Read (start c.before.before.before) s
 
 pub returns-then-size-bytes : goal.returns-then-size-bytes
 returns-then-size-bytes c =
-    refused (start c.before.before.before.before.before.before) _ verdict.OutputTooShort _ c.nameless-then-size-bytes.ensures refl (λ s e. short-room c.before.before.before s e (omega (arith, c.if-size-bytes.true)))
+    refused (start c.before.before.before.before.before) _ verdict.OutputTooShort _ c.nameless-then-size-bytes.ensures refl (λ s e. short-room c.before.before.before s e (omega (arith, c.if-size-bytes.true)))
 
-fits : (c : After-nameless-2) → let s = start c.before.before.before.before.before in length s.args.bytes.now ≤ s.args.size
+fits : (c : After-nameless-2) → let s = start c.before.before.before.before in length s.args.bytes.now ≤ s.args.size
 fits c = omega (arith, c.if-size-bytes.false)
 
 pub returns : goal.returns
 returns c =
-    decided (start c.before.before.before.before.before.before) _ verdict.Done c.nameless-2.ensures (λ s e. room c.before.before.before s e (fits c.before)) (λ passes. (low c.before.before.before.before.before.before, fits c.before))
+    decided (start c.before.before.before.before.before) _ verdict.Done c.nameless-2.ensures (λ s e. room c.before.before.before s e (fits c.before)) (λ passes. (low c.before.before.before.before.before, fits c.before))

@@ -14,10 +14,10 @@ use Rattle.moves.proofs.commit.Tie as tie
 use Rattle.moves.proofs.commit.Goals as goal
 
 abbrev Start : Type 0
-Start = place.Start tie.the-claims tie.handed_pre tie.handed_post
+Start = place.Start tie.the-claims tie.handed_pre tie.handed_post tie.handed_clauses
 
 abbrev After-less_delta : Type 0
-After-less_delta = place.After-less_delta tie.the-claims tie.handed_pre tie.handed_post
+After-less_delta = place.After-less_delta tie.the-claims tie.handed_pre tie.handed_post tie.handed_clauses
 
 present : (s : Start) → s.args.seat.account ≡ 0 → ⊥
 present s = is-present s.args.seat s.requires.known.1
@@ -49,13 +49,13 @@ remainder_is c = c.less_delta.ensures ∙ ap (remainder_of (remaining c.before.b
 
 pub returns-in_default : goal.returns-in_default
 returns-in_default c =
-    let exceeds = overrun-exceeds (remaining c.before.before.before.before) (delta c.before.before.before.before) (told (remainder_is c.before.before) c.in_default.is) in
-    (commit-overruns c.args.seat _ _ _ refl (present c.before.before.before.before) (fits c.before.before.before.before) exceeds, tt)
+    let exceeds = overrun-exceeds (remaining c.before.before.before) (delta c.before.before.before) (told (remainder_is c.before) c.in_default.is) in
+    (commit-overruns c.args.seat _ _ _ refl (present c.before.before.before) (fits c.before.before.before) exceeds, tt)
 
 pub returns : goal.returns
 returns c =
-    let h = adds_up c.before.before.before.before.before.before.before in
-    let left = left_is (remaining c.before.before.before.before.before.before.before) (delta c.before.before.before.before.before.before.before) _ (told (remainder_is c.before.before.before.before.before) c.in-Left.is) in (
-      commit-ends c.args.seat _ _ _ refl (present c.before.before.before.before.before.before.before) (fits c.before.before.before.before.before.before.before) _ _ left.0 left.1 c.requires.sum.0,
-      account-sound _ _ _ _ _ (omega (arith, c.requires, commit-leaves (remaining c.before.before.before.before.before.before.before) c.args.booked.0 c.args.spent left.0)) h.1 c.requires.known.0.limit,
+    let h = adds_up c.before.before.before.before.before in
+    let left = left_is (remaining c.before.before.before.before.before) (delta c.before.before.before.before.before) _ (told (remainder_is c.before.before.before) c.in-Left.is) in (
+      commit-ends c.args.seat _ _ _ refl (present c.before.before.before.before.before) (fits c.before.before.before.before.before) _ _ left.0 left.1 c.requires.sum.0,
+      account-sound _ _ _ _ _ (omega (arith, c.requires, commit-leaves (remaining c.before.before.before.before.before) c.args.booked.0 c.args.spent left.0)) h.1 c.requires.known.0.limit,
     )

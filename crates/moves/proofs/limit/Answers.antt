@@ -10,7 +10,7 @@ use Rattle.moves.proofs.limit.Tie as tie
 use Rattle.moves.proofs.limit.Goals as goal
 
 abbrev In-Natural : Type 0
-In-Natural = place.After-known_told tie.the-claims tie.handed_pre tie.handed_post
+In-Natural = place.Past-After-known_told tie.the-claims tie.handed_pre tie.handed_post
 
 pub returns-in_default : goal.returns-in_default
 returns-in_default c = search (limit-negative, sign-negative, told)

@@ -9,7 +9,7 @@ use Rattle.moves.proofs.release.Tie as tie
 use Rattle.moves.proofs.release.Goals as goal
 
 abbrev In-Present : Type 0
-In-Present = place.After-enum_told tie.the-claims tie.handed_pre tie.handed_post
+In-Present = place.Past-After-enum_told tie.the-claims tie.handed_pre tie.handed_post
 
 pub returns-in_default : goal.returns-in_default
 returns-in_default c = (release-missing c.args.seat _ (is-missing c.args.seat (told c.tenant_of.ensures c.in_default.is)), tt)

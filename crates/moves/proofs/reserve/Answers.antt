@@ -8,7 +8,7 @@ use Rattle.moves.proofs.reserve.Tie as tie
 use Rattle.moves.proofs.reserve.Goals as goal
 
 abbrev Start : Type 0
-Start = place.Start tie.handed_pre tie.handed_post
+Start = place.Start tie.handed_pre tie.handed_post tie.handed_clauses
 
 passes : (s : Start) → Passes s.args.seat (pos s.args.asked) s.args.asked s.args.reserved
 passes s = record {

@@ -15,7 +15,7 @@ abbrev Start : Type 0
 Start = place.Start tie.the-claims tie.handed_pre tie.handed_post
 
 abbrev In-Fits : Type 0
-In-Fits = place.After-known_told tie.the-claims tie.handed_pre tie.handed_post
+In-Fits = place.Past-After-known_told tie.the-claims tie.handed_pre tie.handed_post
 
 is-asked : (s : Start) → Asked s.args.seat (pos s.args.added) s.args.added
 is-asked s = record { amount = refl; positive = λ e. omega (arith, s.requires.2); present = is-present s.args.seat s.requires.1 }
@@ -24,10 +24,10 @@ adds_up : (s : Start) → AmountsAddUp s.args.seat
 adds_up s = amounts-add-up s.args.seat s.requires.0 (is-asked s).present
 
 pub returns-in_default : goal.returns-in_default
-returns-in_default c = (top-up-overflows _ _ _ (is-asked c.before.before.before) (above-sum _ _ (told c.plus.ensures c.in_default.is)), tt)
+returns-in_default c = (top-up-overflows _ _ _ (is-asked c.before.before) (above-sum _ _ (told c.plus.ensures c.in_default.is)), tt)
 
 abbrev entry : In-Fits → Start
-entry c = c.before.before.before.before
+entry c = c.before.before
 
 -- the new initial
 sum_is : (c : In-Fits) → let a = (entry c).args in (c.in-Fits.initial ≡ a.seat.initial + a.added) × (a.seat.initial + a.added ≤ M)

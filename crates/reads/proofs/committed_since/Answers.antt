@@ -12,8 +12,8 @@ use Rattle.reads.proofs.committed_since.Lts as place
 use Rattle.reads.proofs.committed_since.Tie as tie
 use Rattle.reads.proofs.committed_since.Goals as goal
 
-abbrev In-Fits-2 : Type 0
-In-Fits-2 = place.After-total tie.the-claims tie.handed_pre tie.handed_post
+abbrev In-Fits : Type 0
+In-Fits = place.Past-After-known_told tie.the-claims tie.handed_pre tie.handed_post
 
 abbrev After-struct_known-1 : Type 0
 After-struct_known-1 = place.After-struct_known tie.the-claims tie.handed_pre tie.handed_post
@@ -24,7 +24,7 @@ above c =
     baseline-small c.args.room.now c.requires.ledger c.requires.is_room c.load_head-head.result c.load_head-head.ensures
 
 -- where it fits
-below : (c : In-Fits-2) → (c.load_head-head.result.baseline ≤ c.in-Fits.total) × (c.in-Fits.total ≤ M)
+below : (c : In-Fits) → (c.load_head-head.result.baseline ≤ c.in-Fits.total) × (c.in-Fits.total ≤ M)
 below c =
     baseline-below c.args.room.now c.requires.ledger c.requires.is_room c.load_head-head.result c.load_head-head.ensures c.sum_committed.result c.in-Fits.total (c.sum_committed.ensures c.requires.ledger c.requires.is_room) c.in-Fits.is
 
@@ -43,10 +43,10 @@ returns-in_default c L room =
     ∙ since-overflows c.args.room.now L room c.load_head-head.result c.load_head-head.ensures c.sum_committed.result (c.sum_committed.ensures L room) c.in_default.is
 
 pub overflow_sub-total : goal.overflow_sub-total
-overflow_sub-total c = (below c.before.before.before).0
+overflow_sub-total c = (below c.before.before).0
 
 pub amount-requires-2 : goal.amount-requires-2
-amount-requires-2 c = omega (arith, (below c.before.before.before).1)
+amount-requires-2 c = omega (arith, (below c.before.before).1)
 
 pub returns : goal.returns
 returns c L room =

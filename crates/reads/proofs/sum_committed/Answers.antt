@@ -37,13 +37,13 @@ load_place-place-requires c = let z = size c.before.before.before.before.before 
 
 pub returns-in_default : goal.returns-in_default
 returns-in_default c L room =
-    sum-above c.args.room.now L room c.loop-i.i c.loop-i.total (omega (arith, in_use c.before.before.before.before.before.before.before, c.loop-i-test.true)) c.loop-i.invariant.1
+    sum-above c.args.room.now L room c.loop-i.i c.loop-i.total (omega (arith, in_use c.before.before.before.before.before.before, c.loop-i-test.true)) c.loop-i.invariant.1
     (omega (arith, above-sum c.loop-i.total c.load_place-place.result.committed (sym c.plus.ensures ∙ c.in_default.is), ap committed_in c.load_place-place.ensures))
 
 pub loop-i-preserved : goal.loop-i-preserved
 loop-i-preserved c =
     let f = fits_sum c.loop-i.total c.load_place-place.result.committed c.in-Fits.more (sym c.plus.ensures ∙ c.in-Fits.is) in
-    let next = sum-next committed_in c.args.room.now (size c.before.before.before.before.before.before.before.before.before.before) c.loop-i.i (omega (arith, in_use c.before.before.before.before.before.before.before.before, c.loop-i-test.true)) in
+    let next = sum-next committed_in c.args.room.now (size c.before.before.before.before.before.before.before.before) c.loop-i.i (omega (arith, in_use c.before.before.before.before.before.before, c.loop-i-test.true)) in
     (omega (arith, c.loop-i-test.true), omega (arith, f.0, c.loop-i.invariant.1, ap committed_in c.load_place-place.ensures, next), omega (arith, f))
 
 pub returns : goal.returns

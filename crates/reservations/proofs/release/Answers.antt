@@ -23,14 +23,14 @@ use Rattle.reservations.proofs.release.Goals as goal
 abbrev Start : Type 0
 Start = place.Start tie.the-claims tie.handed_pre tie.handed_post
 
-abbrev In-At-2 : Type 0
-In-At-2 = place.After-j tie.the-claims tie.handed_pre tie.handed_post
+abbrev In-At : Type 0
+In-At = place.Past-After-known_told tie.the-claims tie.handed_pre tie.handed_post
 
 abbrev After-release : Type 0
 After-release = place.After-release tie.the-claims tie.handed_pre tie.handed_post
 
 abbrev In-Returned : Type 0
-In-Returned = place.After-known_told2 tie.the-claims tie.handed_pre tie.handed_post
+In-Returned = place.Past-After-known_told2 tie.the-claims tie.handed_pre tie.handed_post
 
 -- ── at the entry ───────────────────────────────────────────────────────────────────────────────
 
@@ -54,25 +54,25 @@ find_booking-requires c = searchable (room c.before) c.requires
 
 -- ── the reservation that was found ─────────────────────────────────────────────────────────────
 
-abbrev at : In-At-2 → ℕ
+abbrev at : In-At → ℕ
 at c = c.in-At.j
 
-found : (c : In-At-2) → FoundBooking (room c.before.before.before.before) (id c.before.before.before.before) (at c)
+found : (c : In-At) → FoundBooking (room c.before.before.before) (id c.before.before.before) (at c)
 found c =
     let f = c.find_booking in
-    found-booking (room c.before.before.before.before) c.requires (id c.before.before.before.before) (at c) f.result f.ensures c.in-At.is
+    found-booking (room c.before.before.before) c.requires (id c.before.before.before) (at c) f.result f.ensures c.in-At.is
 
 pub due_at-due-requires : goal.due_at-due-requires
-due_at-due-requires c = (found c.before).readable
+due_at-due-requires c = (found c).readable
 
 pub release-requires : goal.release-requires
-release-requires c = let due = c.due_at-due in (found c.before.before.before.before).allowed due.result due.ensures
+release-requires c = let due = c.due_at-due in (found c.before.before.before).allowed due.result due.ensures
 
-abbrev place : After-release → In-At-2
-place c = c.before.before.before.before.before
+abbrev place : After-release → In-At
+place c = c.before.before.before.before
 
 abbrev start : After-release → Start
-start c = c.before.before.before.before.before.before.before.before.before
+start c = c.before.before.before.before.before.before.before
 
 settles : (s : Start) (L : Ledger) → operate L (operation s) ≡ on_booking L (booked (id s) L.bookings) release_rule
 unfolding operate
@@ -96,25 +96,25 @@ pub returns-in_default : goal.returns-in_default
 unfolding release_rule
 returns-in_default c L r =
     let f = c.find_booking in
-    refuses (room c.before.before.before.before) L r (operation c.before.before.before.before) (id c.before.before.before.before) release_rule (settles c.before.before.before.before L) (gone (room c.before.before.before.before) L r (id c.before.before.before.before) f.result f.ensures c.in_default.is) MissingReservation refl _ refl
+    refuses (room c.before.before.before) L r (operation c.before.before.before) (id c.before.before.before) release_rule (settles c.before.before.before L) (gone (room c.before.before.before) L r (id c.before.before.before) f.result f.ensures c.in_default.is) MissingReservation refl _ refl
 
 pub returns-in_default-release : goal.returns-in_default-release
 returns-in_default-release c L r =
-    let s = start c.before.before in
-    leaves (room s) L r (operation s) (id s) (at (place c.before.before)) _ MissingTenant (told c.before.before releasing.Missing c.in_default-release.is L r) _ refl
+    let s = start c.before in
+    leaves (room s) L r (operation s) (id s) (at (place c.before)) _ MissingTenant (told c.before releasing.Missing c.in_default-release.is L r) _ refl
 
 -- ── the reservation ends ───────────────────────────────────────────────────────────────────────
 
-ending : (c : In-Returned) → Decides c.before.before.before (releasing.Returned c.in-Returned.returned)
-ending c = told c.before.before.before _ c.in-Returned.is
+ending : (c : In-Returned) → Decides c.before (releasing.Returned c.in-Returned.returned)
+ending c = told c.before _ c.in-Returned.is
 
 returned-sound : (c : In-Returned) → SeatSound c.in-Returned.returned
 returned-sound c = subst ReleasingSound c.in-Returned.is c.release.ensures.1
 
 pub end-requires : goal.end-requires
 end-requires c =
-    let s = start c.before.before.before.before in
-    let allowed = end-allowed (room s) (ledger s) (is_room s) (operation s) (id s) (at (place c.before.before.before.before)) c.due_at-due.result _ (ending c.before (ledger s) (is_room s)) in
+    let s = start c.before.before in
+    let allowed = end-allowed (room s) (ledger s) (is_room s) (operation s) (id s) (at (place c.before.before)) c.due_at-due.result _ (ending c.before (ledger s) (is_room s)) in
     (allowed.0, omega (arith, allowed.1), omega (arith, allowed.2))
 
 pub amount-requires : goal.amount-requires
@@ -124,11 +124,11 @@ amount-requires c = (seat-small _ (returned-sound c.before.before.before.before.
 pub amount-requires-2 : goal.amount-requires-2
 amount-requires-2 c =
     let due = c.due_at-due in
-    let allowed = (found (place c.before.before.before.before.before.before.before.before.before)).allowed due.result due.ensures in
+    let allowed = (found (place c.before.before.before.before.before.before.before)).allowed due.result due.ensures in
     omega (arith, allowed.1, (seat-small _ allowed.0).reserved)
 
 pub returns : goal.returns
 returns c L r =
-    let s = start c.before.before.before.before.before.before.before.before.before.before in
+    let s = start c.before.before.before.before.before.before.before.before in
     let done = c.end in
-    ends (room s) L r (operation s) (id s) (at (place c.before.before.before.before.before.before.before.before.before.before)) _ tt _ _ (ending c.before.before.before.before.before.before.before L r) (returned-sound c.before.before.before.before.before.before.before) _ (ap₂ (λ v w. done_with (v ∷ w ∷ [])) c.amount.ensures c.amount-2.ensures) done.new.0 done.ensures
+    ends (room s) L r (operation s) (id s) (at (place c.before.before.before.before.before.before.before.before)) _ tt _ _ (ending c.before.before.before.before.before.before.before L r) (returned-sound c.before.before.before.before.before.before.before) _ (ap₂ (λ v w. done_with (v ∷ w ∷ [])) c.amount.ensures c.amount-2.ensures) done.new.0 done.ensures

@@ -44,28 +44,28 @@ abbrev After-after_draw-drawn : Type 0
 After-after_draw-drawn = place.After-after_draw tie.the-claims tie.handed_pre tie.handed_post
 
 abbrev In-Amount : Type 0
-In-Amount = place.After-known_told tie.the-claims tie.handed_pre tie.handed_post
+In-Amount = place.Past-After-known_told tie.the-claims tie.handed_pre tie.handed_post
 
 abbrev In-Present : Type 0
-In-Present = place.After-enum_told2 tie.the-claims tie.handed_pre tie.handed_post
+In-Present = place.Past-After-enum_told2 tie.the-claims tie.handed_pre tie.handed_post
 
 abbrev In-Fits : Type 0
-In-Fits = place.After-known_told2 tie.the-claims tie.handed_pre tie.handed_post
+In-Fits = place.Past-After-known_told2 tie.the-claims tie.handed_pre tie.handed_post
 
 abbrev In-Within : Type 0
-In-Within = place.After-enum_told5 tie.the-claims tie.handed_pre tie.handed_post
+In-Within = place.Past-After-enum_told5 tie.the-claims tie.handed_pre tie.handed_post
 
 abbrev In-Identifier : Type 0
-In-Identifier = place.After-known_told3 tie.the-claims tie.handed_pre tie.handed_post
+In-Identifier = place.Past-After-known_told3 tie.the-claims tie.handed_pre tie.handed_post
 
 abbrev After-reserve : Type 0
 After-reserve = place.After-reserve tie.the-claims tie.handed_pre tie.handed_post
 
 abbrev In-Booked : Type 0
-In-Booked = place.After-known_told4 tie.the-claims tie.handed_pre tie.handed_post
+In-Booked = place.Past-After-known_told4 tie.the-claims tie.handed_pre tie.handed_post
 
-abbrev In-At-2 : Type 0
-In-At-2 = place.After-found tie.the-claims tie.handed_pre tie.handed_post
+abbrev In-At : Type 0
+In-At = place.Past-After-known_told5 tie.the-claims tie.handed_pre tie.handed_post
 
 -- ── at the entry ───────────────────────────────────────────────────────────────────────────────
 
@@ -144,14 +144,14 @@ always c m e L k = decided c m (next_id_is_m L) (e (next_id_is_m L)) (λ K j. ap
 
 pub returns-in_default : goal.returns-in_default
 returns-in_default c L r =
-    let s = start c.before.before.before.before.before in
+    let s = start c.before.before.before.before in
     let none = told c.positive_of.ensures c.in_default.is in
-    refuses (room s) L r (name s) (cost s) (Insufficient (pos 0) (cost s)) (always c.before.before.before.before.before _ (λ last. reserve-of-none last (cost s) _ _ none) L r) _
+    refuses (room s) L r (name s) (cost s) (Insufficient (pos 0) (cost s)) (always c.before.before.before.before _ (λ last. reserve-of-none last (cost s) _ _ none) L r) _
     (ap (λ v. reply_of (Insufficient v (cost s))) c.amount.ensures)
 
 -- the cost, which is positive
 abbrev drew : In-Amount → After-after_draw-drawn
-drew c = c.before.before.before.before
+drew c = c.before.before
 
 abbrev asked : In-Amount → ℕ
 asked c = c.in-Amount.asked
@@ -161,14 +161,14 @@ cost-is c = positive-is (cost (start (drew c))) _ (told c.positive_of.ensures c.
 
 pub returns-in_default-tenant_of : goal.returns-in_default-tenant_of
 returns-in_default-tenant_of c L r =
-    let d = drew c.before.before.before.before in
+    let d = drew c.before.before.before in
     let s = start d in
     let missing = is-missing (seat d) (told c.tenant_of.ensures c.in_default-tenant_of.is) in
-    refuses (room s) L r (name s) (cost s) MissingTenant (always d _ (λ last. reserve-missing last (seat d) (cost s) _ (cost-is c.before.before.before.before).0 (cost-is c.before.before.before.before).1 missing) L r) _ refl
+    refuses (room s) L r (name s) (cost s) MissingTenant (always d _ (λ last. reserve-missing last (seat d) (cost s) _ (cost-is c.before.before.before).0 (cost-is c.before.before.before).1 missing) L r) _ refl
 
 -- the airline has an account
 abbrev positive : In-Present → In-Amount
-positive c = c.before.before.before
+positive c = c.before.before
 
 tenant : (c : In-Present) → tenant_of (seat (drew (positive c))) ≡ Present
 tenant c = told c.tenant_of.ensures c.in-Present.is
@@ -184,15 +184,15 @@ plus-requires c = (small c.before).reserved
 
 pub returns-in_default-plus : goal.returns-in_default-plus
 returns-in_default-plus c L r =
-    let d = drew (positive c.before.before.before.before.before) in
+    let d = drew (positive c.before.before.before.before) in
     let s = start d in
     let above = above-sum _ _ (told c.plus.ensures c.in_default-plus.is) in
-    refuses (room s) L r (name s) (cost s) (OverflowOfReserve _) (always d _ (λ last. reserve-overflows last (seat d) (cost s) _ (is-asked c.before.before.before.before.before) above) L r) _
+    refuses (room s) L r (name s) (cost s) (OverflowOfReserve _) (always d _ (λ last. reserve-overflows last (seat d) (cost s) _ (is-asked c.before.before.before.before) above) L r) _
     (ap (λ v. reply_of (OverflowOfReserve v)) c.amount-in_default-plus.ensures)
 
 -- what would be reserved
 abbrev present : In-Fits → In-Present
-present c = c.before.before.before.before
+present c = c.before.before
 
 abbrev reserved : In-Fits → ℕ
 reserved c = c.in-Fits.reserved
@@ -203,16 +203,16 @@ sum_is c = fits_sum _ _ _ (told c.plus.ensures c.in-Fits.is)
 pub returns-in_default-exposure_of : goal.returns-in_default-exposure_of
 returns-in_default-exposure_of c L r =
     let v = c in
-    let e = present v.before.before.before.before.before.before in
+    let e = present v.before.before.before.before.before in
     let d = drew (positive e) in
     let s = start d in
-    let exceeds = is-exceeded (seat d).limit (reserved v.before.before.before.before.before.before) (told c.exposure_of.ensures c.in_default-exposure_of.is) in
-    refuses (room s) L r (name s) (cost s) (ExposureLimitExceeded _ _) (always d _ (λ last. reserve-exposed last (seat d) (cost s) _ (is-asked e) _ (sum_is v.before.before.before.before.before.before).0 (sum_is v.before.before.before.before.before.before).1 exceeds) L r) _
+    let exceeds = is-exceeded (seat d).limit (reserved v.before.before.before.before.before) (told c.exposure_of.ensures c.in_default-exposure_of.is) in
+    refuses (room s) L r (name s) (cost s) (ExposureLimitExceeded _ _) (always d _ (λ last. reserve-exposed last (seat d) (cost s) _ (is-asked e) _ (sum_is v.before.before.before.before.before).0 (sum_is v.before.before.before.before.before).1 exceeds) L r) _
     (ap₂ (λ v w. reply_of (ExposureLimitExceeded v w)) c.amount-in_default-exposure_of.ensures c.amount-in_default-exposure_of-2.ensures)
 
 -- the limit allows it
 abbrev summed : In-Within → In-Fits
-summed c = c.before.before.before
+summed c = c.before.before
 
 abbrev reading : In-Within → After-after_draw-drawn
 reading c = drew (positive (present (summed c)))
@@ -234,15 +234,15 @@ answer-is c = ap (λ (w : Drawn). w.drawing) c.after_draw-drawn.ensures
 
 pub returns-in_default-drawing : goal.returns-in_default-drawing
 returns-in_default-drawing c L r =
-    let d = reading c.before.before.before.before in
+    let d = reading c.before.before.before in
     let s = start d in
     let none : OfRoom (room s) (λ K. true ≡ next_id_is_m K) = λ K j. none-drawn (room s) K j (name s) (head d) d.load_head-head.ensures (told (answer-is d) c.in_default-drawing.is) in
-    refuses (room s) L r (name s) (cost s) (OverflowOfReserve _) (decided d _ true (reserve-ids-used _ _ _ _ (passes c.before.before.before.before)) none L r) _ (ap (λ v. reply_of (OverflowOfReserve v)) c.amount-in_default-drawing.ensures)
+    refuses (room s) L r (name s) (cost s) (OverflowOfReserve _) (decided d _ true (reserve-ids-used _ _ _ _ (passes c.before.before.before)) none L r) _ (ap (λ v. reply_of (OverflowOfReserve v)) c.amount-in_default-drawing.ensures)
 
 -- ── an id drawn ────────────────────────────────────────────────────────────────────────────────
 
 abbrev allowed : In-Identifier → In-Within
-allowed c = c.before.before.before
+allowed c = c.before
 
 abbrev looked : In-Identifier → After-after_draw-drawn
 looked c = reading (allowed c)
@@ -273,23 +273,23 @@ moves c r e =
     (one c.before)
 
 pub put_head-requires : goal.put_head-requires
-put_head-requires c = room-sized (start (looked c.before.before.before.before.before.before))
+put_head-requires c = room-sized (start (looked c.before.before.before.before.before))
 
 pub returns-in_default-reserve : goal.returns-in_default-reserve
 returns-in_default-reserve c L r =
     let put = c.put_head in
-    let d = looked c.before.before.before.before.before.before.before.before.before.before.before in
+    let d = looked c.before.before.before.before.before.before.before.before.before.before in
     let s = start d in
     let loaded = d.load_head-head in
     let drawn = d.after_draw-drawn in
-    loses (room s) L r (name s) (cost s) (name-bytes d) (cost-fits s) loaded.result loaded.ensures drawn.result drawn.ensures _ _ (moves c.before.before.before.before.before.before.before.before.before.before reserving.Insufficient c.in_default-reserve.is L r) _
+    loses (room s) L r (name s) (cost s) (name-bytes d) (cost-fits s) loaded.result loaded.ensures drawn.result drawn.ensures _ _ (moves c.before.before.before.before.before.before.before.before.before reserving.Insufficient c.in_default-reserve.is L r) _
     (ap₂ (λ v w. reply_of (Insufficient v w)) c.amount-in_default-reserve.ensures c.amount-in_default-reserve-2.ensures) put.new.0 put.ensures.0 put.ensures.1
 
 -- ── a booking ──────────────────────────────────────────────────────────────────────────────────
 
-booked : (c : In-Booked) → let d = looked c.before.before.before.before in
-    Decides d (reserving_move (asked (positive (present (summed (allowed c.before.before.before.before))))) (seat d).remaining (reserving.Booked c.in-Booked.booked))
-booked c = moves c.before.before.before _ c.in-Booked.is
+booked : (c : In-Booked) → let d = looked c.before.before in
+    Decides d (reserving_move (asked (positive (present (summed (allowed c.before.before))))) (seat d).remaining (reserving.Booked c.in-Booked.booked))
+booked c = moves c.before _ c.in-Booked.is
 
 booked-sound : (c : In-Booked) → SeatSound c.in-Booked.booked
 booked-sound c = subst ReservingSound c.in-Booked.is c.reserve.ensures.1
@@ -297,57 +297,57 @@ booked-sound c = subst ReservingSound c.in-Booked.is c.reserve.ensures.1
 -- the place of a name with an account is found
 pub returns-in_default-found : goal.returns-in_default-found
 returns-in_default-found c L r =
-    let d = looked c.before.before.before.before.before.before.before in
+    let d = looked c.before.before.before.before in
     let s = start d in
-    let place = found_at (room s) L r (name s) (booked c.before.before.before L r).fits.1 in
+    let place = found_at (room s) L r (name s) (booked c.before.before L r).fits.1 in
     let absent = d.find-found.ensures in
     let told-absent = c.in_default-found.is in
     absurd (let z : ◌≡◌ {A = ℕ} 0 1 = cc in omega arith)
 
 -- the place that was found
-abbrev granted : In-At-2 → In-Booked
-granted c = c.before.before
+abbrev granted : In-At → In-Booked
+granted c = c.before
 
-abbrev drawing : In-At-2 → In-Identifier
-drawing c = (granted c).before.before.before.before
+abbrev drawing : In-At → In-Identifier
+drawing c = (granted c).before.before
 
-at : (c : In-At-2) → let s = start (looked (drawing c)) in At c.in-At.i ≡ place_of_name (name s) (used_places (contents_of (room s)))
+at : (c : In-At) → let s = start (looked (drawing c)) in At c.in-At.i ≡ place_of_name (name s) (used_places (contents_of (room s)))
 at c = sym c.in-At.is ∙ (looked (drawing c)).find-found.ensures
 
 pub book-requires : goal.book-requires
 book-requires c =
-    let s = start (looked (drawing c.before.before.before.before)) in
-    let b = booked (granted c.before.before.before.before) (ledger s) (is_room s) in (
+    let s = start (looked (drawing c.before.before.before)) in
+    let b = booked (granted c.before.before.before) (ledger s) (is_room s) in (
       room-sized s,
-      place-in-use (room s) (ledger s) (is_room s) (name s) b.fits.1 _ (at c.before.before.before.before),
-      (seat-small _ (booked-sound (granted c.before.before.before.before))).remaining,
+      place-in-use (room s) (ledger s) (is_room s) (name s) b.fits.1 _ (at c.before.before.before),
+      (seat-small _ (booked-sound (granted c.before.before.before))).remaining,
     )
 
 pub returns : goal.returns
 returns c L r =
-    let d = looked (drawing c.before.before.before.before.before.before.before) in
+    let d = looked (drawing c.before.before.before.before.before.before) in
     let s = start d in
     let loaded = d.load_head-head in
     let drawn = d.after_draw-drawn in
-    books (room s) L r (name s) (cost s) (name-bytes d) (cost-fits s) loaded.result loaded.ensures drawn.result drawn.ensures _ _ (identifier (drawing c.before.before.before.before.before.before.before)) (booked (granted c.before.before.before.before.before.before.before) L r) (booked-sound (granted c.before.before.before.before.before.before.before))
-    (drawing c.before.before.before.before.before.before.before).in-Identifier.is _ (at c.before.before.before.before.before.before.before) c.book.ensures
+    books (room s) L r (name s) (cost s) (name-bytes d) (cost-fits s) loaded.result loaded.ensures drawn.result drawn.ensures _ _ (identifier (drawing c.before.before.before.before.before.before)) (booked (granted c.before.before.before.before.before.before) L r) (booked-sound (granted c.before.before.before.before.before.before))
+    (drawing c.before.before.before.before.before.before).in-Identifier.is _ (at c.before.before.before.before.before.before) c.book.ensures
 
 -- ── what is carried is at most M ───────────────────────────────────────────────────────────────
 
 pub amount-requires-in_default-plus : goal.amount-requires-in_default-plus
-amount-requires-in_default-plus c = (small c.before.before.before.before).reserved
+amount-requires-in_default-plus c = (small c.before.before.before).reserved
 
 pub amount-requires-in_default-exposure_of : goal.amount-requires-in_default-exposure_of
-amount-requires-in_default-exposure_of c = (small (present c.before.before.before.before)).reserved
+amount-requires-in_default-exposure_of c = (small (present c.before.before.before)).reserved
 
 pub amount-requires-in_default-exposure_of-2 : goal.amount-requires-in_default-exposure_of-2
-amount-requires-in_default-exposure_of-2 c = (seat-sound (drew (positive (present c.before.before.before.before.before)))).limit
+amount-requires-in_default-exposure_of-2 c = (seat-sound (drew (positive (present c.before.before.before.before)))).limit
 
 pub amount-requires-in_default-drawing : goal.amount-requires-in_default-drawing
-amount-requires-in_default-drawing c = (small (present (summed c.before.before.before))).reserved
+amount-requires-in_default-drawing c = (small (present (summed c.before.before))).reserved
 
 pub amount-requires-in_default-reserve : goal.amount-requires-in_default-reserve
-amount-requires-in_default-reserve c = (small (present (summed (allowed c.before.before.before.before.before.before.before.before.before)))).remaining
+amount-requires-in_default-reserve c = (small (present (summed (allowed c.before.before.before.before.before.before.before.before)))).remaining
 
 pub amount-requires-in_default-reserve-2 : goal.amount-requires-in_default-reserve-2
-amount-requires-in_default-reserve-2 c = let sum = sum_is (summed (allowed c.before.before.before.before.before.before.before.before.before.before)) in omega (arith, sum)
+amount-requires-in_default-reserve-2 c = let sum = sum_is (summed (allowed c.before.before.before.before.before.before.before.before.before)) in omega (arith, sum)

@@ -58,11 +58,11 @@ returns-in_default c = record { refusal = λ s e. ap refusal_in c.nameless-in_de
 pub validation-judged-requires : goal.validation-judged-requires
 validation-judged-requires c =
     let known = c.requires in
-    record { snapshot = known.snapshot; is_read = known.is_read; short = short_names c.before.before.before known.snapshot known.is_read }
+    record { snapshot = known.snapshot; is_read = known.is_read; short = short_names c.before.before known.snapshot known.is_read }
 
-by-validation : (c : After-validation-judged) (s : Snapshot) → Read c.before.before.before.before.before.before s → refusal c.before.before.before.before.before.before s ≡ and_then (refusal_in c.validation-judged.result) (of_room c.before.before.before.before.before.before s)
+by-validation : (c : After-validation-judged) (s : Snapshot) → Read c.before.before.before.before.before s → refusal c.before.before.before.before.before s ≡ and_then (refusal_in c.validation-judged.result) (of_room c.before.before.before.before.before s)
 by-validation c s e =
-    by-version c.before.before.before s e ∙ passes_on [] c.args.of-version _ c.in-Done.is ∙ ap (λ o. and_then o (of_room c.before.before.before.before.before.before s)) (sym (c.validation-judged.ensures.refusal s e))
+    by-version c.before.before s e ∙ passes_on [] c.args.of-version _ c.in-Done.is ∙ ap (λ o. and_then o (of_room c.before.before.before.before.before s)) (sym (c.validation-judged.ensures.refusal s e))
 
 pub returns-in_default-verdict : goal.returns-in_default-verdict
 returns-in_default-verdict c =
@@ -71,10 +71,10 @@ returns-in_default-verdict c =
 
 -- ── the snapshot is valid: the room for names decides ──────────────────────────────────────────
 
-by-room : (c : After-count) (s : Snapshot) → Read c.before.before.before.before.before.before.before.before.before s → refusal c.before.before.before.before.before.before.before.before.before s ≡ of_room c.before.before.before.before.before.before.before.before.before s
+by-room : (c : After-count) (s : Snapshot) → Read c.before.before.before.before.before.before.before s → refusal c.before.before.before.before.before.before.before s ≡ of_room c.before.before.before.before.before.before.before s
 by-room c s e =
     let j = c.validation-judged.result in
-    by-validation c.before.before.before s e ∙ passes_on (spelled j.name) j.verdict _ c.in-Done-verdict.is
+    by-validation c.before.before s e ∙ passes_on (spelled j.name) j.verdict _ c.in-Done-verdict.is
 
 pub returns-then-names-count : goal.returns-then-names-count
 returns-then-names-count c = record { refusal = λ s e. ap refusal_in c.nameless-then-names-count.ensures ∙ sym (by-room c.before.before.before s e ∙ decides _ _ _ (ap (ltb _) (sym (c.count.ensures s e)) ∙ lt-ltb _ _ c.if-names-count.true)); form = nameless-form c.nameless-then-names-count.ensures }

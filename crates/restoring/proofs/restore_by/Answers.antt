@@ -25,9 +25,9 @@ returns-in_default c = record { performs = refused (told c.before.before) c.in-D
 
 pub fill-requires : goal.fill-requires
 fill-requires c =
-    let known = (entry c.before.before.before.before).requires in
-    (known.0, taken (told c.before.before.before.before) c.in-Done.is known.1)
+    let known = (entry c.before.before.before).requires in
+    (known.0, taken (told c.before.before.before) c.in-Done.is known.1)
 
 pub returns : goal.returns
 returns c =
-    let start = entry c.before.before.before.before.before.before.before in record { performs = replaced (told c.before.before.before.before.before.before.before) c.in-Done.is c.fill.ensures start.shared_slice_known-1.given start.requires.2; form = c.refusal-judged.ensures.form }
+    let start = entry c.before.before.before.before.before.before in record { performs = replaced (told c.before.before.before.before.before.before) c.in-Done.is c.fill.ensures start.shared_slice_known-1.given start.requires.2; form = c.refusal-judged.ensures.form }

@@ -13,7 +13,7 @@ use Rattle.seats.proofs.seat_at.Tie as tie
 use Rattle.seats.proofs.seat_at.Goals as goal
 
 abbrev In-At : Type 0
-In-At = place.After-known_told tie.the-claims tie.handed_pre tie.handed_post
+In-At = place.Past-After-known_told tie.the-claims tie.handed_pre tie.handed_post
 
 pub returns-in_default : goal.returns-in_default
 returns-in_default c = sym (ap (λ f. seat_found f (used_places (contents_of c.args.room.now))) c.in_default.is)

@@ -13,10 +13,10 @@ use Rattle.seats.proofs.write_seat.Tie as tie
 use Rattle.seats.proofs.write_seat.Goals as goal
 
 abbrev In-At : Type 0
-In-At = place.After-known_told tie.the-claims tie.handed_pre tie.handed_post
+In-At = place.Past-After-known_told tie.the-claims tie.handed_pre tie.handed_post
 
 abbrev In_default : Type 0
-In_default = place.After-enum_told tie.the-claims tie.handed_pre tie.handed_post
+In_default = place.Past-After-enum_told tie.the-claims tie.handed_pre tie.handed_post
 
 -- ── a name that holds no place ─────────────────────────────────────────────────────────────────
 

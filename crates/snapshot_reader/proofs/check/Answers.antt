@@ -30,8 +30,8 @@ After-loop-left = place.After-loop tie.the-claims tie.handed_pre tie.handed_post
 abbrev After-row_end : Type 0
 After-row_end = place.After-row_end tie.the-claims tie.handed_pre tie.handed_post goal.the-invariant-loop-left goal.the-decreases-loop-left
 
-abbrev In-At-2 : Type 0
-In-At-2 = place.After-end tie.the-claims tie.handed_pre tie.handed_post goal.the-invariant-loop-left goal.the-decreases-loop-left
+abbrev In-At : Type 0
+In-At = place.Past-After-known_told tie.the-claims tie.handed_pre tie.handed_post goal.the-invariant-loop-left goal.the-decreases-loop-left
 
 pub returns-then-bytes-lt-SNAPSHOT_HEADER : goal.returns-then-bytes-lt-SNAPSHOT_HEADER
 returns-then-bytes-lt-SNAPSHOT_HEADER c = sym (refused c.args.bytes.now (λ h. absurd (omega arith)))
@@ -73,15 +73,15 @@ module _ (c : After-row_end) where
   row_ends r e = subst (RowEnds bytes at (read_row (drop at bytes))) e c.row_end.ensures
 
 pub returns-in_default : goal.returns-in_default
-returns-in_default c = sym (undecided c.before.before.before ∙ broken (bytes c.before.before.before) (long c.before.before.before) (at c.before.before.before) (later c.before.before.before) (row_ends c.before.before.before Missing c.in_default.is))
+returns-in_default c = sym (undecided c.before.before ∙ broken (bytes c.before.before) (long c.before.before) (at c.before.before) (later c.before.before) (row_ends c.before.before Missing c.in_default.is))
 
-past : (c : In-At-2) → Past (bytes c.before.before) (long c.before.before) (at c.before.before) c.in-At.end (later c.before.before) (read_rows (suc (later c.before.before)) (drop (at c.before.before) (bytes c.before.before)))
+past : (c : In-At) → Past (bytes c.before) (long c.before) (at c.before) c.in-At.end (later c.before) (read_rows (suc (later c.before)) (drop (at c.before) (bytes c.before)))
 past c =
     let end = c.in-At.end in
-    passed (bytes c.before.before) (long c.before.before) (at c.before.before) end (later c.before.before) (row_ends c.before.before (At end) c.in-At.is)
+    passed (bytes c.before) (long c.before) (at c.before) end (later c.before) (row_ends c.before (At end) c.in-At.is)
 
 pub loop-left-preserved : goal.loop-left-preserved
-loop-left-preserved c = let passed-row = past c.before.before.before in (passed-row.within, undecided c.before.before.before.before.before ∙ passed-row.same)
+loop-left-preserved c = let passed-row = past c.before.before in (passed-row.within, undecided c.before.before.before ∙ passed-row.same)
 
 -- ── the end ────────────────────────────────────────────────────────────────────────────────────
 
@@ -108,4 +108,4 @@ pub returns : goal.returns
 returns c = sym (all_read c.before.before.before c.if-at-bytes.false ∙ ap (verdict true) c.if-long.false)
 
 pub bounds-bytes-at : goal.bounds-bytes-at
-bounds-bytes-at c = let passed-row = past c.before.before.before in omega arith
+bounds-bytes-at c = let passed-row = past c.before.before in omega arith

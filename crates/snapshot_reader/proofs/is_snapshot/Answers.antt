@@ -16,10 +16,10 @@ answered : (c : After-check-checked) (answer : Checked) → c.check-checked.resu
 answered c answer told = says c.args.bytes.now c.check-checked.ensures told
 
 pub returns-in-Passes : goal.returns-in-Passes
-returns-in-Passes c = sym (ap is_read (answered c.before.before.before Passes c.in-Passes.is).is_read)
+returns-in-Passes c = sym (ap is_read (answered c.before.before Passes c.in-Passes.is).is_read)
 
 pub returns-in-NameTooLong : goal.returns-in-NameTooLong
-returns-in-NameTooLong c = sym (ap is_read (answered c.before.before.before NameTooLong c.in-NameTooLong.is).is_read)
+returns-in-NameTooLong c = sym (ap is_read (answered c.before.before NameTooLong c.in-NameTooLong.is).is_read)
 
 pub returns-in-BadFrame : goal.returns-in-BadFrame
-returns-in-BadFrame c = sym (ap is_read (answered c.before.before.before BadFrame c.in-BadFrame.is))
+returns-in-BadFrame c = sym (ap is_read (answered c.before.before BadFrame c.in-BadFrame.is))

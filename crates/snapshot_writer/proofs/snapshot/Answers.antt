@@ -59,12 +59,12 @@ stamps : (c : After-stamp) → OfRoom (room (start c)) (λ L. stamped_head (head
 stamps c L r = sym (c.stamp.ensures ∙ ap stamped_head (c.load_head.ensures ∙ head-is (room (start c)) L r))
 
 pub returns-in_default : goal.returns-in_default
-returns-in_default c = (λ L r. answers-exhausted (room (start c.before.before.before)) L r (length (output (start c.before.before.before))) (stamps c.before.before.before L r ∙ c.in_default.is), (refl, tt))
+returns-in_default c = (λ L r. answers-exhausted (room (start c.before.before)) L r (length (output (start c.before.before))) (stamps c.before.before L r ∙ c.in_default.is), (refl, tt))
 
 -- ── the output measured ────────────────────────────────────────────────────────────────────────
 
 abbrev stamped : After-has_room → After-stamp
-stamped c = c.before.before.before.before
+stamped c = c.before.before
 
 abbrev entry : After-has_room → Start
 entry c = start (stamped c)

@@ -18,13 +18,13 @@ use Rattle.totals.proofs.plus.Tie as tie
 use Rattle.totals.proofs.plus.Goals as goal
 
 abbrev After-word_of-word : Type 0
-After-word_of-word = place.After-word_of tie.the-claims tie.handed_pre tie.handed_post tie.handed_clauses
+After-word_of-word = place.After-word_of tie.the-claims tie.handed_pre tie.handed_post
 
 abbrev Then-x-ge0 : Type 0
-Then-x-ge0 = place.Then1 tie.the-claims tie.handed_pre tie.handed_post tie.handed_clauses
+Then-x-ge0 = place.Then1 tie.the-claims tie.handed_pre tie.handed_post
 
 abbrev Else-x-ge0 : Type 0
-Else-x-ge0 = place.Else1 tie.the-claims tie.handed_pre tie.handed_post tie.handed_clauses
+Else-x-ge0 = place.Else1 tie.the-claims tie.handed_pre tie.handed_post
 
 module _ (c : After-word_of-word) where
   abbrev high : ℤ

@@ -22,7 +22,7 @@ abbrev Start : Type 0
 Start = place.Start tie.the-claims tie.handed_pre tie.handed_post
 
 abbrev In-At : Type 0
-In-At = place.After-known_told tie.the-claims tie.handed_pre tie.handed_post
+In-At = place.Past-After-known_told tie.the-claims tie.handed_pre tie.handed_post
 
 part-long : (s : Start) → length (take s.args.end s.args.input.now) ≡ s.args.end
 part-long s = length-take-le s.args.end s.args.input.now s.requires.1
@@ -41,7 +41,7 @@ returns-in_default c =
 
 module _ (c : In-At) where
   abbrev start : Start
-  start = c.before.before.before.before.before
+  start = c.before.before.before
 
   abbrev feed : ℕ
   feed = c.in-At.feed

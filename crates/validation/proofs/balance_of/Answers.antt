@@ -62,13 +62,13 @@ module _ (c : After-fit) where
   fitted-sum = sym (c.fit.ensures ∙ ap fitted sum_is)
 
 pub returns-in_default : goal.returns-in_default
-returns-in_default c a = sym (overflows a (initial c.before.before) (remaining c.before.before) (reserved c.before.before) (committed c.before.before) (outside-is (exact c.before.before) (fitted-sum c.before.before ∙ c.in_default.is)))
+returns-in_default c a = sym (overflows a (initial c.before) (remaining c.before) (reserved c.before) (committed c.before) (outside-is (exact c.before) (fitted-sum c.before ∙ c.in_default.is)))
 
 -- ── the sum against initial ────────────────────────────────────────────────────────────────────
 
 module _ (c : After-struct_told-2-1) where
   abbrev summed : After-fit
-  summed = c.before.before.before.before.before.before.before
+  summed = c.before.before.before.before.before
 
   abbrev found : ℤ
   found = c.in-Fits.exact.0
@@ -101,12 +101,12 @@ fitted-delta c =
 
 pub returns-in_default-fit : goal.returns-in_default-fit
 returns-in_default-fit c a =
-    let f = summed c.before.before.before.before.before in
-    sym (delta-overflows a (initial f) (remaining f) (reserved f) (committed f) (found_is c.before.before.before.before.before).1 (other c.before.before.before.before.before c.if-exact-initial.false) (outside-is (exact f -ℤ initial f) (fitted-delta c.before.before ∙ c.in_default-fit.is)))
+    let f = summed c.before.before.before.before in
+    sym (delta-overflows a (initial f) (remaining f) (reserved f) (committed f) (found_is c.before.before.before.before).1 (other c.before.before.before.before c.if-exact-initial.false) (outside-is (exact f -ℤ initial f) (fitted-delta c.before ∙ c.in_default-fit.is)))
 
 pub returns : goal.returns
 returns c a =
-    let f = summed c.before.before.before.before.before.before in
+    let f = summed c.before.before.before.before in
     let told = c.delta-1.given in
-    let (is, fits) = fits-is (exact f -ℤ initial f) told.0.0 (fitted-delta c.before.before.before ∙ told.1) in
-    ap (λ z. some (ConservationViolation a z)) is ∙ sym (differs a (initial f) (remaining f) (reserved f) (committed f) (found_is c.before.before.before.before.before.before).1 (other c.before.before.before.before.before.before c.if-exact-initial.false) fits)
+    let (is, fits) = fits-is (exact f -ℤ initial f) told.0.0 (fitted-delta c.before ∙ told.1) in
+    ap (λ z. some (ConservationViolation a z)) is ∙ sym (differs a (initial f) (remaining f) (reserved f) (committed f) (found_is c.before.before.before.before).1 (other c.before.before.before.before c.if-exact-initial.false) fits)

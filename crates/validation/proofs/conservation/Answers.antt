@@ -23,7 +23,7 @@ here c = row-there conserving c.loop-at.invariant c.loop-at-test.true c.requires
 
 further : (c : After-name_end-at)
     → Further c.args.bytes.now c.loop-at.at c.name_end-at.result
-further c = forward (standing (here c.before.before.before.before)) c.name_end-at.ensures
+further c = forward (standing (here c.before.before.before)) c.name_end-at.ensures
 
 pub returns-in_default : goal.returns-in_default
 returns-in_default c =
@@ -48,7 +48,7 @@ pub of_row-requires : goal.of_row-requires
 of_row-requires c = here c.before.before.before
 
 pub name_end-at-requires : goal.name_end-at-requires
-name_end-at-requires c = standing (here c.before.before.before.before)
+name_end-at-requires c = standing (here c.before.before.before)
 
 pub overflow_add-at : goal.overflow_add-at
 overflow_add-at c = omega (arith, further c.before)

@@ -43,4 +43,4 @@ returns-in_default c =
 
 pub returns : goal.returns
 returns c =
-    let j = c.rows_validation-judged.result in record { refusal = λ s e. c.conservation.ensures.refusal s e ∙ sym (by_rows c.before.before.before.before s e ∙ passes_on (spelled j.name) j.verdict (conservation s.rows) c.in-Done.is); form = c.conservation.ensures.form }
+    let j = c.rows_validation-judged.result in record { refusal = λ s e. c.conservation.ensures.refusal s e ∙ sym (by_rows c.before.before.before s e ∙ passes_on (spelled j.name) j.verdict (conservation s.rows) c.in-Done.is); form = c.conservation.ensures.form }

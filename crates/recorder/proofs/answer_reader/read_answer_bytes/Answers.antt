@@ -51,9 +51,9 @@ module _ (c : After-read_carried) where
       ∙ answered start.args.code start.args.bytes.now (omega arith) (kinds_of shape.result) shape.ensures c.read_carried.result c.read_carried.ensures
 
 pub returns-in_default : goal.returns-in_default
-returns-in_default c = no_answer (read c.before.before.before) (start c.before.before.before).args.words.now (as_read c.before.before.before carried.BadFrame c.in_default.is)
+returns-in_default c = no_answer (read c.before.before) (start c.before.before).args.words.now (as_read c.before.before carried.BadFrame c.in_default.is)
 
 pub returns : goal.returns
 returns c =
     let values = c.values-1.given in
-    an-answer (read c.before.before.before.before.before.before) (start c.before.before.before.before.before.before).args.words.now _ (as_read c.before.before.before.before.before.before _ values.1) c.store.ensures
+    an-answer (read c.before.before.before.before) (start c.before.before.before.before).args.words.now _ (as_read c.before.before.before.before _ values.1) c.store.ensures

@@ -20,7 +20,7 @@ abbrev Start : Type 0
 Start = place.Start tie.the-claims tie.handed_pre tie.handed_post
 
 abbrev In-At : Type 0
-In-At = place.After-known_told tie.the-claims tie.handed_pre tie.handed_post
+In-At = place.Past-After-known_told tie.the-claims tie.handed_pre tie.handed_post
 
 abbrev kinds : List Kind
 kinds = a_name ∷ []
@@ -37,7 +37,7 @@ returns-in_default c =
 
 module _ (k : In-At) where
   abbrev start : Start
-  start = k.before.before.before.before.before
+  start = k.before.before.before
 
   abbrev bytes : List ℕ
   bytes = start.args.bytes.now

@@ -75,14 +75,14 @@ pub write_judged-requires : goal.write_judged-requires
 write_judged-requires c =
     record {
       passes = sym c.judge-judged.ensures ∙ c.in-Passes.is;
-      done = λ many. many-is-done (start (numbered c.before.before.before.before)).args.code (number c.before.before.before.before) (subst (λ o. 4 ≤ count_in o) c.shape_of-shape.ensures many);
+      done = λ many. many-is-done (start (numbered c.before.before.before)).args.code (number c.before.before.before) (subst (λ o. 4 ≤ count_in o) c.shape_of-shape.ensures many);
     }
 
 pub returns-in-BadFrame : goal.returns-in-BadFrame
-returns-in-BadFrame c = by-rule (rule-is c.before.before.before BadFrame c.in-BadFrame.is) (record { reply = refl; room = refl })
+returns-in-BadFrame c = by-rule (rule-is c.before.before BadFrame c.in-BadFrame.is) (record { reply = refl; room = refl })
 
 pub returns-in-NameTooLong : goal.returns-in-NameTooLong
-returns-in-NameTooLong c = by-rule (rule-is c.before.before.before NameTooLong c.in-NameTooLong.is) (record { reply = refl; room = refl })
+returns-in-NameTooLong c = by-rule (rule-is c.before.before NameTooLong c.in-NameTooLong.is) (record { reply = refl; room = refl })
 
 pub returns-in-Passes : goal.returns-in-Passes
-returns-in-Passes c = by-rule (rule-is c.before.before.before.before.before.before.before Passes c.in-Passes.is) c.write_judged.ensures
+returns-in-Passes c = by-rule (rule-is c.before.before.before.before.before.before Passes c.in-Passes.is) c.write_judged.ensures

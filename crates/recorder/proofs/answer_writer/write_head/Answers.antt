@@ -26,13 +26,13 @@ abbrev Start : Type 0
 Start = place.Start tie.the-claims tie.handed_pre tie.handed_post
 
 abbrev In-Named : Type 0
-In-Named = place.After-enum_told6 tie.the-claims tie.handed_pre tie.handed_post
+In-Named = place.Past-After-enum_told6 tie.the-claims tie.handed_pre tie.handed_post
 
 abbrev In-NamedWord : Type 0
-In-NamedWord = place.After-enum_told7 tie.the-claims tie.handed_pre tie.handed_post
+In-NamedWord = place.Past-After-enum_told7 tie.the-claims tie.handed_pre tie.handed_post
 
 abbrev In-NamedField : Type 0
-In-NamedField = place.After-enum_told8 tie.the-claims tie.handed_pre tie.handed_post
+In-NamedField = place.Past-After-enum_told8 tie.the-claims tie.handed_pre tie.handed_post
 
 module _ (s : Start) {other : Shape} (is : s.args.shape ≡ other) where
   abbrev words : List ℕ
@@ -59,73 +59,73 @@ named {number = number} {part = part} is vs writes = matched (ap (λ a. reply nu
 
 -- an answer with a name has passed for one of at most 24 bytes
 short-alone : (c : In-Named) → length c.args.part.now ≤ longest_name
-short-alone c = short-name c.args.words.now c.args.part.now [] (passes c.before.before.before.before c.in-Named.is)
+short-alone c = short-name c.args.words.now c.args.part.now [] (passes c.before.before.before c.in-Named.is)
 
 short-word : (c : In-NamedWord) → length c.args.part.now ≤ longest_name
-short-word c = short-name c.args.words.now c.args.part.now (a_word ∷ []) (passes c.before.before.before.before c.in-NamedWord.is)
+short-word c = short-name c.args.words.now c.args.part.now (a_word ∷ []) (passes c.before.before.before c.in-NamedWord.is)
 
 short-field : (c : In-NamedField) → length c.args.part.now ≤ longest_name
-short-field c = short-name c.args.words.now c.args.part.now (a_byte ∷ a_word ∷ []) (passes c.before.before.before.before c.in-NamedField.is)
+short-field c = short-name c.args.words.now c.args.part.now (a_byte ∷ a_word ∷ []) (passes c.before.before.before c.in-NamedField.is)
 
 held : {size other : ℕ} → size ≡ other → other ≤ longest_name → size ≤ longest_name
 held is short = omega arith
 
 pub overflow_cast-words : goal.overflow_cast-words
 overflow_cast-words c =
-    record { fits = omega (arith, small-field c.args.words.now c.args.part.now (passes c.before.before.before.before.before.before.before.before.before c.in-NamedField.is)) }
+    record { fits = omega (arith, small-field c.args.words.now c.args.part.now (passes c.before.before.before.before.before.before.before.before c.in-NamedField.is)) }
 
 pub write_certificate-requires : goal.write_certificate-requires
 write_certificate-requires c =
-    let (balanced, representable) = certificate-flags (words c.before.before.before.before.before.before c.in-Certificate.is) (part c.before.before.before.before.before.before c.in-Certificate.is) (passes c.before.before.before.before.before.before c.in-Certificate.is) in
+    let (balanced, representable) = certificate-flags (words c.before.before.before.before.before c.in-Certificate.is) (part c.before.before.before.before.before c.in-Certificate.is) (passes c.before.before.before.before.before c.in-Certificate.is) in
     (search rules, balanced, representable)
 
 pub write_proof-requires : goal.write_proof-requires
 write_proof-requires c =
-    (search rules, proof-flag (words c.before.before.before.before.before.before c.in-Proof.is) (part c.before.before.before.before.before.before c.in-Proof.is) (passes c.before.before.before.before.before.before c.in-Proof.is))
+    (search rules, proof-flag (words c.before.before.before.before.before c.in-Proof.is) (part c.before.before.before.before.before c.in-Proof.is) (passes c.before.before.before.before.before c.in-Proof.is))
 
 pub returns-in-NoAnswer : goal.returns-in-NoAnswer
 returns-in-NoAnswer c =
-    arm c.before.before.before.before.before.before.before.before.before c.in-NoAnswer.is c.write_number.ensures
+    arm c.before.before.before.before.before.before.before.before c.in-NoAnswer.is c.write_number.ensures
 
 pub returns-in-Nothing : goal.returns-in-Nothing
 returns-in-Nothing c =
-    arm c.before.before.before.before.before.before.before.before.before c.in-Nothing.is c.write_number-in-Nothing.ensures
+    arm c.before.before.before.before.before.before.before.before c.in-Nothing.is c.write_number-in-Nothing.ensures
 
 pub returns-in-Word : goal.returns-in-Word
 returns-in-Word c =
-    arm c.before.before.before.before.before.before.before.before.before.before.before c.in-Word.is (c.write_word.ensures _ refl)
+    arm c.before.before.before.before.before.before.before.before.before.before c.in-Word.is (c.write_word.ensures _ refl)
 
 pub returns-in-TwoWords : goal.returns-in-TwoWords
 returns-in-TwoWords c =
-    arm c.before.before.before.before.before.before.before.before.before.before.before.before c.in-TwoWords.is (c.write_two_words.ensures _ _ refl refl)
+    arm c.before.before.before.before.before.before.before.before.before.before.before c.in-TwoWords.is (c.write_two_words.ensures _ _ refl refl)
 
 pub returns-in-ThreeWords : goal.returns-in-ThreeWords
 returns-in-ThreeWords c =
-    arm c.before.before.before.before.before.before.before.before.before.before.before.before.before c.in-ThreeWords.is (c.write_three_words.ensures _ _ _ refl refl refl)
+    arm c.before.before.before.before.before.before.before.before.before.before.before.before c.in-ThreeWords.is (c.write_three_words.ensures _ _ _ refl refl refl)
 
 pub returns-in-Named : goal.returns-in-Named
 returns-in-Named c =
-    arm c.before.before.before.before.before.before.before.before.before.before c.in-Named.is (named c.name_of.ensures [] c.write_named.ensures)
+    arm c.before.before.before.before.before.before.before.before.before c.in-Named.is (named c.name_of.ensures [] c.write_named.ensures)
 
 pub returns-in-NamedWord : goal.returns-in-NamedWord
 returns-in-NamedWord c =
-    arm c.before.before.before.before.before.before.before.before.before.before.before.before c.in-NamedWord.is (named c.name_of-in-NamedWord.ensures (_ ∷ []) (c.write_named_word.ensures _ refl))
+    arm c.before.before.before.before.before.before.before.before.before.before.before c.in-NamedWord.is (named c.name_of-in-NamedWord.ensures (_ ∷ []) (c.write_named_word.ensures _ refl))
 
 pub returns-in-NamedField : goal.returns-in-NamedField
 returns-in-NamedField c =
-    arm c.before.before.before.before.before.before.before.before.before.before.before.before.before c.in-NamedField.is (named c.name_of-in-NamedField.ensures (_ ∷ _ ∷ []) (c.write_named_field.ensures _ _ refl refl))
+    arm c.before.before.before.before.before.before.before.before.before.before.before.before c.in-NamedField.is (named c.name_of-in-NamedField.ensures (_ ∷ _ ∷ []) (c.write_named_field.ensures _ _ refl refl))
 
 pub returns-in-Snapshot : goal.returns-in-Snapshot
 returns-in-Snapshot c =
-    arm c.before.before.before.before.before.before.before.before.before c.in-Snapshot.is c.write_number-in-Snapshot.ensures
+    arm c.before.before.before.before.before.before.before.before c.in-Snapshot.is c.write_number-in-Snapshot.ensures
 
 pub returns-in-Certificate : goal.returns-in-Certificate
 returns-in-Certificate c =
-    arm c.before.before.before.before.before.before.before.before.before c.in-Certificate.is (done c.before.before.before.before.before.before.before.before.before c.in-Certificate.is (omega arith) (c.write_certificate.ensures []))
+    arm c.before.before.before.before.before.before.before.before c.in-Certificate.is (done c.before.before.before.before.before.before.before.before c.in-Certificate.is (omega arith) (c.write_certificate.ensures []))
 
 pub returns-in-Proof : goal.returns-in-Proof
 returns-in-Proof c =
-    arm c.before.before.before.before.before.before.before.before.before c.in-Proof.is (done c.before.before.before.before.before.before.before.before.before c.in-Proof.is (omega arith) (c.write_proof.ensures []))
+    arm c.before.before.before.before.before.before.before.before c.in-Proof.is (done c.before.before.before.before.before.before.before.before c.in-Proof.is (omega arith) (c.write_proof.ensures []))
 
 pub name_of-requires : goal.name_of-requires
 name_of-requires c = short-alone c.before.before

@@ -29,20 +29,20 @@ pub put-requires : goal.put-requires
 put-requires c =
     let args = c.args in
     let head = c.write_number-size.ensures in
-    let (_, size) = snapshot-stands _ (are-bytes c.before.before.before.before.before.before.before.before) (answered c.before.before.before.before.before.before.before.before checked.Passes c.in-Passes.is) in
+    let (_, size) = snapshot-stands _ (are-bytes c.before.before.before.before.before.before.before) (answered c.before.before.before.before.before.before.before checked.Passes c.in-Passes.is) in
     omega (arith, head-size head, head.size, code-size args.code, size)
 
 pub returns-in-BadFrame : goal.returns-in-BadFrame
 returns-in-BadFrame c number amount =
     let args = c.args in
     let p = parts number amount args.snapshot.now in
-    no-operation args.as_line args.code p args.output.now (snapshot-frame args.code c.requires p none (answered c.before.before.before checked.BadFrame c.in-BadFrame.is))
+    no-operation args.as_line args.code p args.output.now (snapshot-frame args.code c.requires p none (answered c.before.before checked.BadFrame c.in-BadFrame.is))
 
 pub returns-in-NameTooLong : goal.returns-in-NameTooLong
 returns-in-NameTooLong c number amount =
     let args = c.args in
     let p = parts number amount args.snapshot.now in
-    let long = answered c.before.before.before checked.NameTooLong c.in-NameTooLong.is in
+    let long = answered c.before.before checked.NameTooLong c.in-NameTooLong.is in
     too_long args.as_line args.code p args.output.now _ _ (snapshot-frame args.code c.requires p (some long.snapshot) long.is_read) long.long
 
 pub returns-in-Passes : goal.returns-in-Passes
@@ -50,8 +50,8 @@ unfolding flat_map
 returns-in-Passes c number amount =
     let args = c.args in
     let p = parts number amount args.snapshot.now in
-    let short = answered c.before.before.before.before.before.before.before.before.before.before.before checked.Passes c.in-Passes.is in
-    let (stands, _) = snapshot-stands _ (are-bytes c.before.before.before.before.before.before.before.before.before.before.before) short in
+    let short = answered c.before.before.before.before.before.before.before.before.before.before checked.Passes c.in-Passes.is in
+    let (stands, _) = snapshot-stands _ (are-bytes c.before.before.before.before.before.before.before.before.before.before) short in
     written args.as_line args.code p args.output.now _ _ [] _ args.snapshot.now (snapshot-frame args.code c.requires p (some short.snapshot) short.is_read) short.short
     (head-is c.write_number-size.ensures) (sym stands) c.put.ensures
 

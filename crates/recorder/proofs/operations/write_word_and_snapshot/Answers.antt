@@ -31,28 +31,28 @@ pub put-requires : goal.put-requires
 put-requires c =
     let args = c.args in
     let head = c.write_word-size.ensures (Identifier _) refl in
-    let (_, size) = snapshot-stands _ (are-bytes c.before.before.before.before.before.before.before.before) (answered c.before.before.before.before.before.before.before.before checked.Passes c.in-Passes.is) in
+    let (_, size) = snapshot-stands _ (are-bytes c.before.before.before.before.before.before.before) (answered c.before.before.before.before.before.before.before checked.Passes c.in-Passes.is) in
     omega (arith, head-size head, head.size, word_size args.code args.word, size)
 
 pub returns-in-BadFrame : goal.returns-in-BadFrame
 returns-in-BadFrame c number amount is =
     let args = c.args in
     let p = parts number amount args.snapshot.now in
-    no-operation args.as_line args.code p args.output.now (word-frame args.code c.requires p none (answered c.before.before.before checked.BadFrame c.in-BadFrame.is))
+    no-operation args.as_line args.code p args.output.now (word-frame args.code c.requires p none (answered c.before.before checked.BadFrame c.in-BadFrame.is))
 
 pub returns-in-NameTooLong : goal.returns-in-NameTooLong
 returns-in-NameTooLong c number amount is =
     let args = c.args in
     let p = parts number amount args.snapshot.now in
-    let long = answered c.before.before.before checked.NameTooLong c.in-NameTooLong.is in
+    let long = answered c.before.before checked.NameTooLong c.in-NameTooLong.is in
     too_long args.as_line args.code p args.output.now _ _ (word-frame args.code c.requires p (some long.snapshot) long.is_read) long.long
 
 pub returns-in-Passes : goal.returns-in-Passes
 returns-in-Passes c number amount is =
     let args = c.args in
     let p = parts number amount args.snapshot.now in
-    let short = answered c.before.before.before.before.before.before.before.before.before.before.before checked.Passes c.in-Passes.is in
-    let (stands, _) = snapshot-stands _ (are-bytes c.before.before.before.before.before.before.before.before.before.before.before) short in
+    let short = answered c.before.before.before.before.before.before.before.before.before.before checked.Passes c.in-Passes.is in
+    let (stands, _) = snapshot-stands _ (are-bytes c.before.before.before.before.before.before.before.before.before.before) short in
     written args.as_line args.code p args.output.now _ _ (Identifier args.word ∷ []) _ args.snapshot.now (word-frame args.code c.requires p (some short.snapshot) short.is_read) short.short
     (head-is (c.write_word-size.ensures (Identifier _) refl)) (one_value (Identifier args.word) args.snapshot.now ∙ ap (λ l. bytes_of 8 args.word ++ l) (sym stands) ∙ ap (λ w. bytes_of 8 w ++ snapshot_bytes short.snapshot) (sym is)) c.put.ensures
 
