@@ -29,7 +29,7 @@ pair c = record { is_high = c.digit-high.ensures; is_low = c.digit-low.ensures; 
 pub returns-then-high-gt15 : goal.returns-then-high-gt15
 returns-then-high-gt15 c =
     let l = c.loop-i in
-    wrong l.invariant.2 (pair c.before.before) (⊎_elim (λ h. inl h.taken) (λ k. inr (ltb-true 15 c.digit-low.result k.1.taken)) c.if-high-gt15.branch) (omega arith)
+    wrong l.invariant.2 (pair c.before.before) (⊎_elim inl (λ k. inr k.1) c.then-high-gt15.either) (omega arith)
 
 pub loop-i-preserved : goal.loop-i-preserved
 loop-i-preserved c =

@@ -6,8 +6,8 @@ pub returns : goal.returns
 returns c =
     λ j.
     record {
-      c = c.read8.ensures j;
-      c = c.read8-2.ensures j;
-      c = c.read8-3.ensures j;
+      names = c.read8.ensures j;
+      reservations = c.read8-2.ensures j;
+      used = c.read8-3.ensures j;
       live = c.read8-4.ensures j;
     }

@@ -10,13 +10,13 @@ use Rattle.records.proofs.write_name_bytes.Goals as goal
 
 pub loop-i-preserved : goal.loop-i-preserved
 loop-i-preserved c =
-    let bytes = c.args.t2 in
+    let bytes = c.args.bytes in
     let i = c.loop-i.i in
     (omega arith, c.loop-i.invariant.1, simp length-set c.loop-i.invariant.2, ap (λ p. set p i (get_or bytes i 0)) c.loop-i.invariant.3 ∙ copied-turn _ bytes i 0 (omega arith) (omega arith))
 
 pub returns : goal.returns
 returns c =
-    c.loop-i.invariant.3 ∙ copied_all _ c.args.t2 c.loop-i.i (omega arith) (omega arith)
+    c.loop-i.invariant.3 ∙ copied_all _ c.args.bytes c.loop-i.i (omega arith) (omega arith)
 
 pub loop-i-init : goal.loop-i-init
 loop-i-init c = (omega arith, search rules, c.requires, refl)

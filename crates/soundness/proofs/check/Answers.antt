@@ -35,8 +35,8 @@ returns c =
     by_answer c.tables_sound.ensures
     (λ tables. record {
       long = omega arith;
-      c = subst (λ s. SizesSound s (length room)) c.load_sizes-sizes.ensures (sized c.before.before);
-      c = subst HeadSound c.load_head-head.ensures (accepted c.head_sound.ensures c.if-not-head_sound.false-raw);
+      sizes = subst (λ s. SizesSound s (length room)) c.load_sizes-sizes.ensures (sized c.before.before);
+      head = subst HeadSound c.load_head-head.ensures (accepted c.head_sound.ensures c.if-not-head_sound.false-raw);
       tables = tables;
     })
     (λ h. h.tables)

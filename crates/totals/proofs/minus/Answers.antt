@@ -16,10 +16,10 @@ use Rattle.totals.proofs.minus.Tie as tie
 use Rattle.totals.proofs.minus.Goals as goal
 
 abbrev After-struct_told-1 : Type 0
-After-struct_told-1 = place.After-struct_told tie.the-claims tie.handed_pre tie.handed_post
+After-struct_told-1 = place.After-struct_told tie.the-claims tie.handed_pre tie.handed_post tie.handed_clauses
 
 abbrev Else-x : Type 0
-Else-x = place.Else1 tie.the-claims tie.handed_pre tie.handed_post
+Else-x = place.Else1 tie.the-claims tie.handed_pre tie.handed_post tie.handed_clauses
 
 module _ (c : After-struct_told-1) where
   abbrev total : Total

@@ -18,13 +18,13 @@ use Rattle.totals.proofs.plus.Tie as tie
 use Rattle.totals.proofs.plus.Goals as goal
 
 abbrev After-word_of-word : Type 0
-After-word_of-word = place.After-word_of tie.the-claims tie.handed_pre tie.handed_post
+After-word_of-word = place.After-word_of tie.the-claims tie.handed_pre tie.handed_post tie.handed_clauses
 
 abbrev Then-x-ge0 : Type 0
-Then-x-ge0 = place.Then1 tie.the-claims tie.handed_pre tie.handed_post
+Then-x-ge0 = place.Then1 tie.the-claims tie.handed_pre tie.handed_post tie.handed_clauses
 
 abbrev Else-x-ge0 : Type 0
-Else-x-ge0 = place.Else1 tie.the-claims tie.handed_pre tie.handed_post
+Else-x-ge0 = place.Else1 tie.the-claims tie.handed_pre tie.handed_post tie.handed_clauses
 
 module _ (c : After-word_of-word) where
   abbrev high : ℤ
@@ -69,13 +69,15 @@ by-natural c =
 
 pub returns-then-low-room : goal.returns-then-low-room
 returns-then-low-room c =
-    answer c.before.before (high c.before.before) (high c.before.before) (low c.before.before + word c.before.before) refl (omega arith) (added (high c.before.before) (low c.before.before) (word c.before.before) ∙ by-natural c.before)
+    let both = answer c.before.before (high c.before.before) (high c.before.before) (low c.before.before + word c.before.before) refl (omega arith) (added (high c.before.before) (low c.before.before) (word c.before.before) ∙ by-natural c.before) in
+    record { value = both.0; moved = both.1 }
 
 pub returns-then-x-ge0 : goal.returns-then-x-ge0
 returns-then-x-ge0 c =
     let rest : ℕ = low c.before.before - (2 ^ 64 - 1 - word c.before.before) - 1 in
-    answer c.before.before (held (high c.before.before) +ℤ pos 1) (high c.before.before +ℤ pos 1) rest (ap (λ z. z +ℤ pos 1) (held_high c.before.before)) (moved_up (high c.before.before))
-    (carried (high c.before.before) (low c.before.before) (word c.before.before) rest (omega (arith, word_small c.before.before)) ∙ by-natural c.before)
+    let both = answer c.before.before (held (high c.before.before) +ℤ pos 1) (high c.before.before +ℤ pos 1) rest (ap (λ z. z +ℤ pos 1) (held_high c.before.before)) (moved_up (high c.before.before))
+    (carried (high c.before.before) (low c.before.before) (word c.before.before) rest (omega (arith, word_small c.before.before)) ∙ by-natural c.before) in
+    record { value = both.0; moved = both.1 }
 
 -- ── an amount below 0 ──────────────────────────────────────────────────────────────────────────
 
@@ -86,13 +88,15 @@ lifts c =
 
 pub returns-then-low-room-2 : goal.returns-then-low-room-2
 returns-then-low-room-2 c =
-    answer c.before.before (held (high c.before.before) -ℤ pos 1) (high c.before.before -ℤ pos 1) (low c.before.before + word c.before.before) (ap (λ z. z -ℤ pos 1) (held_high c.before.before)) (moved_down (high c.before.before))
-    (borrowed (high c.before.before) (low c.before.before) (amount c.before.before) (word c.before.before) (lifts c.before))
+    let both = answer c.before.before (held (high c.before.before) -ℤ pos 1) (high c.before.before -ℤ pos 1) (low c.before.before + word c.before.before) (ap (λ z. z -ℤ pos 1) (held_high c.before.before)) (moved_down (high c.before.before))
+    (borrowed (high c.before.before) (low c.before.before) (amount c.before.before) (word c.before.before) (lifts c.before)) in
+    record { value = both.0; moved = both.1 }
 
 pub returns : goal.returns
 returns c =
     let rest : ℕ = low c.before.before - (2 ^ 64 - 1 - word c.before.before) - 1 in
-    answer c.before.before (high c.before.before) (high c.before.before) rest refl (omega arith) (lowered (high c.before.before) (low c.before.before) (amount c.before.before) (word c.before.before) (lifts c.before) rest (omega (arith, word_small c.before.before)))
+    let both = answer c.before.before (high c.before.before) (high c.before.before) rest refl (omega arith) (lowered (high c.before.before) (low c.before.before) (amount c.before.before) (word c.before.before) (lifts c.before) rest (omega (arith, word_small c.before.before))) in
+    record { value = both.0; moved = both.1 }
 
 -- ── the high word stays in range ───────────────────────────────────────────────────────────────
 
