@@ -144,7 +144,7 @@ module _ {bs : List ℕ} where
   pub rows-length : {at : ℕ} (rows : List Row) → RowsFrom bs at rows → length bs ≡ at + sum row_length rows
   unfolding sum
   rows-length [] h = omega (arith, rows_end h)
-  rows-length (row ∷ later) h = omega (arith, rows-length later (first-row h).next)
+  rows-length {at} (row ∷ later) h = omega (arith, rows-length {at = at + shortest_row + length row.name} later (first-row h).next)
 
   -- from one byte on there is one list of rows
   pub rows_apart : {at : ℕ} (rows others : List Row) → RowsFrom bs at rows → RowsFrom bs at others → rows ≡ others
@@ -154,7 +154,7 @@ module _ {bs : List ℕ} where
   rows_apart {at} (row ∷ rows) (other ∷ others) h k =
       let first : row ≡ other = (first-row h).is ∙ sym (first-row k).is in
       let next = subst (λ r. RowsFrom bs (at + shortest_row + length r.name) others) (sym first) (first-row k).next in
-      λ i. first i ∷ rows_apart rows others (first-row h).next next i
+      λ i. first i ∷ rows_apart {at = at + shortest_row + length row.name} rows others (first-row h).next next i
 
 -- ── a pass over the rows ───────────────────────────────────────────────────────────────────────
 

@@ -24,4 +24,4 @@ migrate-requires c = is-snapshot _ _ c.is_snapshot.ensures c.if-not-is_snapshot.
 pub returns : goal.returns
 returns c =
     let made = c.migrate in
-    (judged _ _ c.is_snapshot.ensures (migrate _ _) _ c.if-not-is_snapshot.false-raw made.ensures.0, made.ensures.1)
+    (judged _ _ c.is_snapshot.ensures (migrate _ _) _ c.if-not-is_snapshot.false-raw made.ensures.answer, made.ensures.output)

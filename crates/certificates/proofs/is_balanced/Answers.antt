@@ -21,9 +21,9 @@ returns-in_default c s e =
     let judged = c.conservation-judged in
     let a = spelled judged.result.name in
     let v = judged.result.verdict in
-    sym (decides-some (refusal_of a v) (λ later. refuses a v later c.in-Done.keys2)) ∙ ap is_none (judged.ensures.0 s e)
+    sym (decides-some (refusal_of a v) (λ later. refuses a v later c.in-Done.keys2)) ∙ ap is_none (judged.ensures.refusal s e)
 
 pub returns : goal.returns
 returns c s e =
     let judged = c.conservation-judged in
-    ap (λ v. is_none (refusal_of (spelled judged.result.name) v)) (sym c.in-Done.is) ∙ ap is_none (judged.ensures.0 s e)
+    ap (λ v. is_none (refusal_of (spelled judged.result.name) v)) (sym c.in-Done.is) ∙ ap is_none (judged.ensures.refusal s e)

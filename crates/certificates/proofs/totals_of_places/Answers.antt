@@ -42,7 +42,7 @@ load_sizes-sizes-requires c = omega (arith, (size c.before.before).size)
 pub loop-i-init : goal.loop-i-init
 loop-i-init c =
     let room = c.args.room.now in
-    (omega arith, places-none initials room c.requires.ledger c.requires.is_room c.nothing-initial.result c.nothing-initial.ensures, places-none commits room c.requires.ledger c.requires.is_room c.nothing-committed.result c.nothing-committed.ensures)
+    (omega arith, places-none initials room c.requires.ledger c.requires.is_room c.nothing-initial.result (c.nothing-initial.ensures.value, c.nothing-initial.ensures.moved), places-none commits room c.requires.ledger c.requires.is_room c.nothing-committed.result (c.nothing-committed.ensures.value, c.nothing-committed.ensures.moved))
 
 -- ── a turn ─────────────────────────────────────────────────────────────────────────────────────
 
@@ -89,9 +89,9 @@ loop-i-preserved c =
     let l = t.loop-i in (
       omega (arith, t.loop-i-test.true),
       places-next initials (room t.before.before.before.before.before.before) (start t.before.before.before.before.before.before).requires.ledger (is_room t.before.before.before.before.before.before) (i t.before.before.before.before.before.before) l.initial l.invariant.1 (passing t.before.before.before.before.before.before) c.amount.result c.plus-initial.result
-          (c.amount.ensures ∙ ap (λ p. pos p.initial) p.load_place-place.ensures) c.plus-initial.ensures,
+          (c.amount.ensures ∙ ap (λ p. pos p.initial) p.load_place-place.ensures) (c.plus-initial.ensures.value, c.plus-initial.ensures.moved),
       places-next commits (room t.before.before.before.before.before.before) (start t.before.before.before.before.before.before).requires.ledger (is_room t.before.before.before.before.before.before) (i t.before.before.before.before.before.before) l.committed l.invariant.2 (passing t.before.before.before.before.before.before) c.amount-in-loop-i.result c.plus-committed.result
-          (c.amount-in-loop-i.ensures ∙ ap (λ p. pos p.committed) p.load_place-place.ensures) c.plus-committed.ensures,
+          (c.amount-in-loop-i.ensures ∙ ap (λ p. pos p.committed) p.load_place-place.ensures) (c.plus-committed.ensures.value, c.plus-committed.ensures.moved),
     )
 
 -- ── after the last place ───────────────────────────────────────────────────────────────────────

@@ -34,7 +34,7 @@ module _ (c : After-room_for-needed) where
   operation = operation_of_frame start.args.bytes.now
 
   needed-is : c.room_for-needed.result ≡ room_for operation
-  needed-is = let read = c.read-frame in c.room_for-needed.ensures start.args.bytes.now read.ensures.1 ∙ ap room_for read.ensures.0
+  needed-is = let read = c.read-frame in c.room_for-needed.ensures start.args.bytes.now read.ensures.parts ∙ ap room_for read.ensures.operation
 
   needed-bound : c.room_for-needed.result ≤ longest_answer
   needed-bound = omega (arith, needed-is, (room-bounds operation).1)
@@ -85,7 +85,7 @@ slice_bounds-answer-end-2 c =
 pub answer-size-requires : goal.answer-size-requires
 answer-size-requires c =
     let read = c.read-frame in
-    ((start c.before.before.before.before).requires, (read.ensures.1, omega (arith, slice_bounds-answer-end-2 c.before, c.room_for-needed.ensures (start c.before.before.before.before).args.bytes.now read.ensures.1)))
+    ((start c.before.before.before.before).requires, (read.ensures.parts, omega (arith, slice_bounds-answer-end-2 c.before, c.room_for-needed.ensures (start c.before.before.before.before).args.bytes.now read.ensures.parts)))
 
 pub finish-requires : goal.finish-requires
 finish-requires c =

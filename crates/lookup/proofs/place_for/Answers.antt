@@ -1,5 +1,5 @@
 -- `lookup::place_for` meets its contract. The invariant: every name passed comes before the new one.
-use mathlib.Core.Path.{◌≡◌, sym, ap, ◌∙◌}
+use mathlib.Core.Path.{refl, ◌≡◌, sym, ap, ◌∙◌}
 use mathlib.Core.Logic.{◌⊎◌, inl, inr, ◌≢◌}
 use Prim.Native.Nat.{Ordering}
 use Prim.Native.Nat.{ℕ, ◌-◌, ◌≤◌, ◌<◌}
@@ -27,12 +27,11 @@ After-load_sizes-sizes = place.After-load_sizes tie.the-claims tie.handed_pre ti
 abbrev After-compare : Type 0
 After-compare = place.After-compare tie.the-claims tie.handed_pre tie.handed_post goal.the-invariant-loop-i goal.the-decreases-loop-i
 
--- an answer by another tag than `Before`'s
-other_tag : (o : Order) → (tag_of (declared enum) o ≡ 1) ⊎ (tag_of (declared enum) o ≡ 2) → ordering_of o ≢ Ordering.lt
-other_tag Before (inl h) = absurd (omega arith)
-other_tag Before (inr h) = absurd (omega arith)
-other_tag Same h = eq_not_lt
-other_tag After h = gt-not-lt
+-- an answer other than `Before`
+other_answer : (o : Order) → (o ≡ Before → ⊥) → ordering_of o ≢ Ordering.lt
+other_answer Before h = absurd (h refl)
+other_answer Same h = eq_not_lt
+other_answer After h = gt-not-lt
 
 in_use : (c : After-load_sizes-sizes) → c.load_sizes-sizes.result.used ≡ (sizes_of c.args.room.now).used
 in_use c = ap (λ s. s.used) c.load_sizes-sizes.ensures
@@ -57,7 +56,7 @@ returns-in_default c =
     (record {
       within = omega (arith, in_use c.before.before.before.before.before.before, used-places c.args.room.now c.requires.sized);
       behind = c.loop-i.invariant.1;
-      stops = λ h e. other_tag c.compare.result c.in-Before.keys2 (compared c.before.before ∙ e);
+      stops = λ h e. other_answer c.compare.result c.in_default.not-Before (compared c.before.before ∙ e);
     })
 
 pub loop-i-preserved : goal.loop-i-preserved

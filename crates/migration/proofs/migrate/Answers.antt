@@ -41,7 +41,7 @@ returns-in_default c =
     let judged = c.refusal-judged in
     let j = judged.result in
     let refused = is-refused (spelled j.name) j.verdict c.in-Done.keys2 in
-    (λ s e. same_answer refused _ _ ∙ judged.ensures.0 s e, (sym (untouched refused _ _), judged.ensures.1.1))
+    (λ s e. same_answer refused _ _ ∙ judged.ensures.answer s e, (sym (untouched refused _ _), judged.ensures.room.1))
 
 -- ── nothing is refused ─────────────────────────────────────────────────────────────────────────
 
@@ -96,7 +96,7 @@ returns c =
     let pre = (start (told c.before.before.before).before).requires in
     let answer : Option Refusal → List ℕ → Reply = λ o handed. reply_or o (done (SnapshotBytes handed ∷ [])) in
     let kept-output = kept c.before.before.before pre.snapshot pre.is_read ∙ ap (λ o. output_after (answer o (take (length (bytes c.before.before.before)) (after c.before.before.before))) (output c.before.before.before)) (sym (passes (told c.before.before.before))) in
-    (λ s e. ap (answer (refusal_in judged.result)) (front c.before.before.before s e) ∙ judged.ensures.0 s e, (kept-output, judged.ensures.1.1))
+    (λ s e. ap (answer (refusal_in judged.result)) (front c.before.before.before s e) ∙ judged.ensures.answer s e, (kept-output, judged.ensures.room.1))
 
 pub tagged-version-requires : goal.tagged-version-requires
 tagged-version-requires c = (room c.before).0

@@ -138,8 +138,8 @@ returns-in_default c =
     let judged = c.validation-judged in
     let j = judged.result in
     let answers : (s : Snapshot) → Read (start c.before.before.before) s → Answers (start c.before.before.before) s (refusal_in j) =
-    λ s e. validated _ _ s (passed c.before.before.before s e) _ (judged.ensures.0 s e) _ (refuses (spelled j.name) j.verdict _ c.in-Done.keys2) in
-    (answers, (λ passes. none-some (sym passes ∙ (not_done c.before).is), judged.ensures.1))
+    λ s e. validated _ _ s (passed c.before.before.before s e) _ (judged.ensures.refusal s e) _ (refuses (spelled j.name) j.verdict _ c.in-Done.keys2) in
+    (answers, (λ passes. none-some (sym passes ∙ (not_done c.before).is), judged.ensures.form))
 
 -- the validation passes too: the room decides, and it is asked of the bytes supplied
 module _ (c : In-Done) (s : Snapshot) (e : Read (start c.before.before) s) where
@@ -156,7 +156,7 @@ module _ (c : In-Done) (s : Snapshot) (e : Read (start c.before.before) s) where
   by-room o is =
       let judged = c.validation-judged in
       let j = judged.result in
-      validated size fence s (passed c.before.before s e) _ (judged.ensures.0 s e) o (is ∙ sym (passes_on (spelled j.name) j.verdict _ c.in-Done.is))
+      validated size fence s (passed c.before.before s e) _ (judged.ensures.refusal s e) o (is ∙ sym (passes_on (spelled j.name) j.verdict _ c.in-Done.is))
 
   as_long : length (snapshot_bytes (with_version (tagged fence) s)) ≡ length bytes
   as_long = migrated-length bytes (all-bytes bytes (entry c.before.before).shared_slice_known-1.given) s e (tagged fence)

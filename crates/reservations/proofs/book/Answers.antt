@@ -39,9 +39,9 @@ append_booking-requires c =
     let s = start c.before.before.before.before.before in
     let xs = s.args.room.now in
     let put = c.put_seat in
-    let same : (contents_of put.new.0).sizes ≡ (contents_of xs).sizes = seated-sizes xs put.new.0 s.requires.0 s.args.i s.args.seat put.ensures in
+    let same : (contents_of put.new.room).sizes ≡ (contents_of xs).sizes = seated-sizes xs put.new.room s.requires.0 s.args.i s.args.seat put.ensures in
     let r = sized-by xs s.requires.0 in (
-      seated-sized xs put.new.0 s.requires.0 s.args.i s.args.seat put.ensures,
+      seated-sized xs put.new.room s.requires.0 s.args.i s.args.seat put.ensures,
       rw same (room_left c.before.before.before.before.before),
       omega (arith, s.requires.1),
     )
@@ -52,9 +52,9 @@ put_head-requires c =
     let xs = s.args.room.now in
     let put = c.put_seat in
     let appended = c.append_booking in
-    let same : (contents_of put.new.0).sizes ≡ (contents_of xs).sizes = seated-sizes xs put.new.0 s.requires.0 s.args.i s.args.seat put.ensures in
-    let sized : Sized put.new.0 = seated-sized xs put.new.0 s.requires.0 s.args.i s.args.seat put.ensures in
-    appended-sized put.new.0 appended.new.0 sized _ appended.ensures (rw same (room_left c.before.before.before.before.before.before.before.before.before))
+    let same : (contents_of put.new.room).sizes ≡ (contents_of xs).sizes = seated-sizes xs put.new.room s.requires.0 s.args.i s.args.seat put.ensures in
+    let sized : Sized put.new.room = seated-sized xs put.new.room s.requires.0 s.args.i s.args.seat put.ensures in
+    appended-sized put.new.room appended.new.room sized _ appended.ensures (rw same (room_left c.before.before.before.before.before.before.before.before.before))
 
 pub returns : goal.returns
 returns c =

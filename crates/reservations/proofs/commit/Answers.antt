@@ -215,7 +215,7 @@ returns c L r =
     let t = asked (tenanted c.before.before.before.before.before.before.before) in
     let s = begun t in
     let done = c.end in
-    ends (room s) L r (operation s) (id s) (at (place t)) _ (actual-fits s) _ _ (ending c.before.before.before.before.before.before L r) (ended-sound c.before.before.before.before.before.before) _ (ap (λ v. done_with (v ∷ actual s ∷ [])) c.amount-2.ensures) done.new.0 done.ensures
+    ends (room s) L r (operation s) (id s) (at (place t)) _ (actual-fits s) _ _ (ending c.before.before.before.before.before.before L r) (ended-sound c.before.before.before.before.before.before) _ (ap (λ v. done_with (v ∷ actual s ∷ [])) c.amount-2.ensures) done.new.room done.ensures
 
 pub amount-requires : goal.amount-requires
 amount-requires c = (seat-small _ (allowed (asked c.before.before)).0).remaining

@@ -10,8 +10,8 @@ pub remove_booking-requires : goal.remove_booking-requires
 remove_booking-requires c =
     let xs = c.args.room.now in
     let put = c.put_seat in
-    let same : (contents_of put.new.0).sizes ≡ (contents_of xs).sizes = seated-sizes xs put.new.0 c.requires.0 c.args.owner c.args.seat put.ensures in (
-      seated-sized xs put.new.0 c.requires.0 c.args.owner c.args.seat put.ensures,
+    let same : (contents_of put.new.room).sizes ≡ (contents_of xs).sizes = seated-sizes xs put.new.room c.requires.0 c.args.owner c.args.seat put.ensures in (
+      seated-sized xs put.new.room c.requires.0 c.args.owner c.args.seat put.ensures,
       rw same c.requires.2,
     )
 

@@ -131,4 +131,4 @@ pub returns : goal.returns
 returns c L r =
     let s = start c.before.before.before.before.before.before.before.before in
     let done = c.end in
-    ends (room s) L r (operation s) (id s) (at (place c.before.before.before.before.before.before.before.before)) _ tt _ _ (ending c.before.before.before.before.before.before.before L r) (returned-sound c.before.before.before.before.before.before.before) _ (ap₂ (λ v w. done_with (v ∷ w ∷ [])) c.amount.ensures c.amount-2.ensures) done.new.0 done.ensures
+    ends (room s) L r (operation s) (id s) (at (place c.before.before.before.before.before.before.before.before)) _ tt _ _ (ending c.before.before.before.before.before.before.before L r) (returned-sound c.before.before.before.before.before.before.before) _ (ap₂ (λ v w. done_with (v ∷ w ∷ [])) c.amount.ensures c.amount-2.ensures) done.new.room done.ensures

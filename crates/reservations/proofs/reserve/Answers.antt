@@ -283,7 +283,7 @@ returns-in_default-reserve c L r =
     let loaded = d.load_head-head in
     let drawn = d.after_draw-drawn in
     loses (room s) L r (name s) (cost s) (name-bytes d) (cost-fits s) loaded.result loaded.ensures drawn.result drawn.ensures _ _ (moves c.before.before.before.before.before.before.before.before.before reserving.Insufficient c.in_default-reserve.is L r) _
-    (ap₂ (λ v w. reply_of (Insufficient v w)) c.amount-in_default-reserve.ensures c.amount-in_default-reserve-2.ensures) put.new.0 put.ensures.0 put.ensures.1
+    (ap₂ (λ v w. reply_of (Insufficient v w)) c.amount-in_default-reserve.ensures c.amount-in_default-reserve-2.ensures) put.new.room put.ensures.0 put.ensures.1
 
 -- ── a booking ──────────────────────────────────────────────────────────────────────────────────
 

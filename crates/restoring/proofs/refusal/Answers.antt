@@ -67,7 +67,7 @@ by-validation c s e =
 pub returns-in_default-verdict : goal.returns-in_default-verdict
 returns-in_default-verdict c =
     let judged = c.validation-judged in
-    let j = judged.result in record { refusal = λ s e. refuses (spelled j.name) j.verdict _ c.in-Done-verdict.keys2 ∙ sym (by-validation c.before.before s e); form = judged.ensures.1 }
+    let j = judged.result in record { refusal = λ s e. refuses (spelled j.name) j.verdict _ c.in-Done-verdict.keys2 ∙ sym (by-validation c.before.before s e); form = judged.ensures.form }
 
 -- ── the snapshot is valid: the room for names decides ──────────────────────────────────────────
 

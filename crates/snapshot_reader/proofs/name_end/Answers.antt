@@ -13,7 +13,7 @@ first : (c : After-shared_slice_known-1) → FirstRow c.args.bytes.now c.args.at
 first c = first-row c.requires.from
 
 pub bounds-bytes-at : goal.bounds-bytes-at
-bounds-bytes-at c = (first c).starts
+bounds-bytes-at c = (first-row c.requires.from).starts
 
 pub overflow_cast-result : goal.overflow_cast-result
 overflow_cast-result c = omega (arith, first c.before)

@@ -16,7 +16,7 @@ use Rattle.tables.proofs.append_booking.Tie as tie
 use Rattle.tables.proofs.append_booking.Goals as goal
 
 abbrev After-load_sizes-sizes : Type 0
-After-load_sizes-sizes = place.After-load_sizes tie.the-claims tie.handed_pre tie.handed_post
+After-load_sizes-sizes = place.After-load_sizes tie.the-claims tie.handed_pre tie.handed_post tie.handed_clauses
 
 sizes : (c : After-load_sizes-sizes) → Loaded c.args.room.now c.load_sizes-sizes.result
 sizes c = loaded c.args.room.now c.load_sizes-sizes.result c.requires.0 c.load_sizes-sizes.ensures
@@ -31,9 +31,9 @@ returns c =
     let room = d.args.room.now in
     let booking = d.args.booking in
     let put_in : List Booking → List Booking = λ bs. set bs t.live booking in
-    let a = booking-replaced room room (λ bs. bs) (refl, refl) (base_of t.names) (ap base_of z.names) put_in booked.new.0 t.live booking d.requires.0 (omega arith) booked.ensures refl in
-    counted (on_bookings put_in) (appended_booking booking) room booked.new.0 last.new.0 t.used (t.live + 1) (stays (on_bookings put_in) room booked.new.0 (λ c. refl) d.requires.0 a) a
-    last.ensures (appended (contents_of room) t z.sizes booking)
+    let a = booking-replaced room room (λ bs. bs) (refl, refl) (base_of t.names) (ap base_of z.names) put_in booked.new.room t.live booking d.requires.0 (omega arith) (booked.ensures.stored, booked.ensures.fits) refl in
+    counted (on_bookings put_in) (appended_booking booking) room booked.new.room last.new.room t.used (t.live + 1) (stays (on_bookings put_in) room booked.new.room (λ c. refl) d.requires.0 a) a
+    (last.ensures.stored, last.ensures.fits) (appended (contents_of room) t z.sizes booking)
 
 pub overflow_mul-base : goal.overflow_mul-base
 overflow_mul-base c = let z = sizes c in omega arith

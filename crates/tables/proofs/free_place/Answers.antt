@@ -13,10 +13,10 @@ use Rattle.tables.proofs.free_place.Tie as tie
 use Rattle.tables.proofs.free_place.Goals as goal
 
 abbrev After-load_sizes-sizes : Type 0
-After-load_sizes-sizes = place.After-load_sizes tie.the-claims tie.handed_pre tie.handed_post
+After-load_sizes-sizes = place.After-load_sizes tie.the-claims tie.handed_pre tie.handed_post tie.handed_clauses
 
 abbrev After-store_place : Type 0
-After-store_place = place.After-store_place tie.the-claims tie.handed_pre tie.handed_post
+After-store_place = place.After-store_place tie.the-claims tie.handed_pre tie.handed_post tie.handed_clauses
 
 sizes : (c : After-load_sizes-sizes) → Loaded c.args.room.now c.load_sizes-sizes.result
 sizes c = loaded c.args.room.now c.load_sizes-sizes.result c.requires.0 c.load_sizes-sizes.ensures
@@ -36,7 +36,7 @@ emptied c =
     let i = c.args.i in
     let ps = (contents_of room).places in
     let all : used ≤ length ps = rw places-length (omega arith) in
-    place-replaced room moved.new.0 (moved_down i used empty_place) moved.ensures (closed i used empty_place) c.store_place.new.room (used - 1) empty_place c.requires.0 (omega arith) c.store_place.ensures
+    place-replaced room moved.new.room (moved_down i used empty_place) moved.ensures (closed i used empty_place) c.store_place.new.room (used - 1) empty_place c.requires.0 (omega arith) (c.store_place.ensures.stored, c.store_place.ensures.fits)
     (closed-set i used _ empty_place ps (omega arith) all)
 
 pub lower_owners-requires : goal.lower_owners-requires
@@ -49,8 +49,8 @@ returns c =
     let owners = c.lower_owners in
     let last = c.store_counts in
     let i = c.args.i in
-    finished (closed i t.used empty_place) c.args.room.now c.store_place.new.room c.requires.0 (emptied c.before.before.before.before.before.before.before.before.before.before.before.before) (renumbered (lowered i) t.live) (freed_place i) owners.new.0 last.new.0
-    (t.used - 1) t.live owners.ensures last.ensures (freed (contents_of c.args.room.now) t (sizes c.before.before.before.before.before.before.before.before.before.before.before.before.before.before.before.before.before.before).sizes i)
+    finished (closed i t.used empty_place) c.args.room.now c.store_place.new.room c.requires.0 (emptied c.before.before.before.before.before.before.before.before.before.before.before.before) (renumbered (lowered i) t.live) (freed_place i) owners.new.room last.new.room
+    (t.used - 1) t.live owners.ensures (last.ensures.stored, last.ensures.fits) (freed (contents_of c.args.room.now) t (sizes c.before.before.before.before.before.before.before.before.before.before.before.before.before.before.before.before.before.before).sizes i)
 
 pub overflow_mul-base : goal.overflow_mul-base
 overflow_mul-base c = let z = sizes c in omega arith

@@ -15,10 +15,10 @@ use Rattle.tables.proofs.insert_place.Tie as tie
 use Rattle.tables.proofs.insert_place.Goals as goal
 
 abbrev After-load_sizes-sizes : Type 0
-After-load_sizes-sizes = place.After-load_sizes tie.the-claims tie.handed_pre tie.handed_post
+After-load_sizes-sizes = place.After-load_sizes tie.the-claims tie.handed_pre tie.handed_post tie.handed_clauses
 
 abbrev After-store_place : Type 0
-After-store_place = place.After-store_place tie.the-claims tie.handed_pre tie.handed_post
+After-store_place = place.After-store_place tie.the-claims tie.handed_pre tie.handed_post tie.handed_clauses
 
 sizes : (c : After-load_sizes-sizes) → Loaded c.args.room.now c.load_sizes-sizes.result
 sizes c = loaded c.args.room.now c.load_sizes-sizes.result c.requires.0 c.load_sizes-sizes.ensures
@@ -39,7 +39,7 @@ placed c =
     let place = c.args.place in
     let ps = (contents_of room).places in
     let all : i ≤ length ps = rw places-length (omega arith) in
-    place-replaced room moved.new.0 (moved_up i used empty_place) moved.ensures (opened i used place) c.store_place.new.room i place c.requires.0 (omega arith) c.store_place.ensures
+    place-replaced room moved.new.room (moved_up i used empty_place) moved.ensures (opened i used place) c.store_place.new.room i place c.requires.0 (omega arith) (c.store_place.ensures.stored, c.store_place.ensures.fits)
     (opened-set i used _ place ps all)
 
 pub raise_owners-requires : goal.raise_owners-requires
@@ -56,8 +56,8 @@ returns c =
     let last = c.store_counts in
     let i = c.args.i in
     let place = c.args.place in
-    finished (opened i t.used place) c.args.room.now c.store_place.new.room c.requires.0 (placed c.before.before.before.before.before.before.before.before.before.before.before.before) (renumbered (raised i) t.live) (inserted_place i place) owners.new.0 last.new.0
-    (t.used + 1) t.live owners.ensures last.ensures (inserted (contents_of c.args.room.now) t (sizes c.before.before.before.before.before.before.before.before.before.before.before.before.before.before.before.before.before.before).sizes i place)
+    finished (opened i t.used place) c.args.room.now c.store_place.new.room c.requires.0 (placed c.before.before.before.before.before.before.before.before.before.before.before.before) (renumbered (raised i) t.live) (inserted_place i place) owners.new.room last.new.room
+    (t.used + 1) t.live owners.ensures (last.ensures.stored, last.ensures.fits) (inserted (contents_of c.args.room.now) t (sizes c.before.before.before.before.before.before.before.before.before.before.before.before.before.before.before.before.before.before).sizes i place)
 
 pub overflow_mul-base : goal.overflow_mul-base
 overflow_mul-base c = let z = sizes c in omega arith

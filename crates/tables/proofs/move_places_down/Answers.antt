@@ -29,8 +29,8 @@ loop-j-preserved c =
       omega arith,
       omega arith,
       c.loop-j.invariant.2,
-      place-moved room c.loop-j.room (moved_down i j empty_place) c.loop-j.invariant.3 (moved_down i (j + 1) empty_place) stored.new.0 j (j - 1) empty_place _ c.requires.0
-          (omega arith) (omega arith) loaded.ensures stored.ensures
+      place-moved room c.loop-j.room (moved_down i j empty_place) c.loop-j.invariant.3 (moved_down i (j + 1) empty_place) stored.new.room j (j - 1) empty_place _ c.requires.0
+          (omega arith) (omega arith) loaded.ensures (stored.ensures.stored, stored.ensures.fits)
           (down_turn i j empty_place (contents_of room).places (omega arith) (rw places-length (omega arith))),
     )
 

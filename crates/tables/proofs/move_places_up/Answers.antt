@@ -29,8 +29,8 @@ loop-j-preserved c =
       omega arith,
       omega arith,
       c.loop-j.invariant.2,
-      place-moved room c.loop-j.room (moved_up j used empty_place) c.loop-j.invariant.3 (moved_up (j - 1) used empty_place) stored.new.0 (j - 1) j empty_place _ c.requires.0
-          (omega arith) (omega arith) loaded.ensures stored.ensures
+      place-moved room c.loop-j.room (moved_up j used empty_place) c.loop-j.invariant.3 (moved_up (j - 1) used empty_place) stored.new.room (j - 1) j empty_place _ c.requires.0
+          (omega arith) (omega arith) loaded.ensures (stored.ensures.stored, stored.ensures.fits)
           (up_turn j used empty_place (contents_of room).places (omega arith) (omega arith) (rw places-length c.requires.2)),
     )
 

@@ -6,4 +6,4 @@ use Rattle.tables.proofs.put_head.Goals as goal
 pub returns : goal.returns
 returns c =
     let stored = c.store_head in
-    head-put c.args.room.now stored.new.0 c.requires c.args.head stored.ensures.1 stored.ensures.0
+    head-put c.args.room.now stored.new.room c.requires c.args.head stored.ensures.fits stored.ensures.stored

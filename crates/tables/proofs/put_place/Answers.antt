@@ -9,7 +9,7 @@ use Rattle.tables.proofs.put_place.Tie as tie
 use Rattle.tables.proofs.put_place.Goals as goal
 
 abbrev Start : Type 0
-Start = place.Start tie.the-claims tie.handed_pre tie.handed_post
+Start = place.Start tie.the-claims tie.handed_pre tie.handed_post tie.handed_clauses
 
 within : (c : Start) → c.args.i < (contents_of c.args.room.now).sizes.names
 within c = let r = sized-by c.args.room.now c.requires.0 in omega arith
@@ -22,4 +22,4 @@ store_place-requires c =
 pub returns : goal.returns
 returns c =
     let stored = c.store_place in
-    place-put c.args.room.now stored.new.0 c.requires.0 c.args.i c.args.place (within c.before.before.before.before.before.before) stored.ensures.1 stored.ensures.0
+    place-put c.args.room.now stored.new.room c.requires.0 c.args.i c.args.place (within c.before.before.before.before.before.before) stored.ensures.fits stored.ensures.stored

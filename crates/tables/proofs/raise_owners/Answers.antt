@@ -12,9 +12,10 @@ use Rattle.tables.proofs.Stores.{SizedBy, sized-by, bookings-length, owner-read,
 use Rattle.tables.proofs.raise_owners.Lts as place
 use Rattle.tables.proofs.raise_owners.Tie as tie
 use Rattle.tables.proofs.raise_owners.Goals as goal
+use Rattle.tables.proofs.raise_owners.Goals.{then-i-owner, else-i-owner}
 
 abbrev After-load_booking-booking : Type 0
-After-load_booking-booking = place.After-load_booking tie.the-claims tie.handed_pre tie.handed_post goal.the-invariant-loop-j goal.the-decreases-loop-j
+After-load_booking-booking = place.After-load_booking tie.the-claims tie.handed_pre tie.handed_post goal.the-invariant-loop-j goal.the-decreases-loop-j tie.handed_clauses
 
 pub loop-j-init : goal.loop-j-init
 loop-j-init c =
@@ -48,13 +49,16 @@ loop-j-preserved c =
     let f = raised i in (
       omega arith,
       c.loop-j.invariant.1,
-      ⊎_elim
-          (λ w. subst (Becomes (on_bookings (renumbered f (j + 1))) room) (sym w.6)
-          (owner-stored room c.loop-j.room f j inv empty_booking (omega arith) c.args.base c.requires.1 w.3.last.0 w.2.result c.requires.0 w.3.ensures
-          (w.2.ensures ∙ sym (raised-from i b w.0.taken) ∙ ap f (loaded c.before))))
-          (λ w. subst (Becomes (on_bookings (renumbered f (j + 1))) room) (sym w.1)
-          (owner-kept room c.loop-j.room f j inv empty_booking (omega arith) (rw loaded at (raised-before i b w.0.left))))
-          c.if-i-owner.branch,
+      elim c.if-i-owner.branch [
+        then-i-owner w ↦
+          subst (Becomes (on_bookings (renumbered f (j + 1))) room) (sym w.room-is)
+          (owner-stored room c.loop-j.room f j inv empty_booking (omega arith) c.args.base c.requires.1 w.store_booking.new.room w.with_owner.result c.requires.0
+          (w.store_booking.ensures.stored, w.store_booking.ensures.fits)
+          (w.with_owner.ensures ∙ sym (raised-from i b w.if-i-owner.true) ∙ ap f (loaded c.before)))
+      | else-i-owner w ↦
+          subst (Becomes (on_bookings (renumbered f (j + 1))) room) (sym w.room-is)
+          (owner-kept room c.loop-j.room f j inv empty_booking (omega arith) (rw loaded at (raised-before i b w.if-i-owner.false)))
+      ],
     )
 
 pub returns : goal.returns

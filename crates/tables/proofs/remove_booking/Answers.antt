@@ -14,7 +14,7 @@ use Rattle.tables.proofs.remove_booking.Tie as tie
 use Rattle.tables.proofs.remove_booking.Goals as goal
 
 abbrev After-load_sizes-sizes : Type 0
-After-load_sizes-sizes = place.After-load_sizes tie.the-claims tie.handed_pre tie.handed_post
+After-load_sizes-sizes = place.After-load_sizes tie.the-claims tie.handed_pre tie.handed_post tie.handed_clauses
 
 sizes : (c : After-load_sizes-sizes) → Loaded c.args.room.now c.load_sizes-sizes.result
 sizes c = loaded c.args.room.now c.load_sizes-sizes.result c.requires.0 c.load_sizes-sizes.ensures
@@ -37,10 +37,10 @@ returns c =
     let bs = (contents_of room).bookings in
     let all : t.live ≤ length bs = rw bookings-length (omega arith) in
     let taken_out = closed i t.live empty_booking in
-    let a = booking-replaced room moved.new.0 (moved_down i t.live empty_booking) moved.ensures (base_of t.names) (ap base_of z.names) taken_out emptied.new.0 (t.live - 1) empty_booking d.requires.0
-    (omega arith) emptied.ensures (closed-set i t.live _ empty_booking bs (omega arith) all) in
-    counted (on_bookings taken_out) (removed_booking i) room emptied.new.0 last.new.0 t.used (t.live - 1) (stays (on_bookings taken_out) room emptied.new.0 (λ c. refl) d.requires.0 a) a
-    last.ensures (removed (contents_of room) t z.sizes i)
+    let a = booking-replaced room moved.new.room (moved_down i t.live empty_booking) moved.ensures (base_of t.names) (ap base_of z.names) taken_out emptied.new.room (t.live - 1) empty_booking d.requires.0
+    (omega arith) (emptied.ensures.stored, emptied.ensures.fits) (closed-set i t.live _ empty_booking bs (omega arith) all) in
+    counted (on_bookings taken_out) (removed_booking i) room emptied.new.room last.new.room t.used (t.live - 1) (stays (on_bookings taken_out) room emptied.new.room (λ c. refl) d.requires.0 a) a
+    (last.ensures.stored, last.ensures.fits) (removed (contents_of room) t z.sizes i)
 
 pub overflow_mul-base : goal.overflow_mul-base
 overflow_mul-base c = let z = sizes c in omega arith

@@ -56,14 +56,14 @@ pub returns-then-progress-eq0 : goal.returns-then-progress-eq0
 returns-then-progress-eq0 c =
     let call = c.settle in
     let batch = c.batch-progress in
-    let after = batch.new.0 in (
-      call.ensures.0 c.args.held,
+    let after = batch.new.room in (
+      call.ensures.within c.args.held,
       (
         λ l read written passing.
             let a = not-passing passing (some c.before.before.before.before.before.before.before.before.before.before.before.before.before.before.before.before.before.before.before.before.before.before.before.before.before c.if-from-end.false) in
-            let (lent, is_line) = none-batched c.requires.2 c.if-progress-eq0.true (batch.ensures.0 (lent_after l a.handed_on) a.lent) in
-            call.ensures.1.0 is_line l read written (lent-as a after lent),
-        λ is. let same = (batch.ensures.0 unsound is).untouched refl in call.ensures.1.1 (subst (λ m. IsLent m unsound) (sym same) is) ∙ same,
+            let (lent, is_line) = none-batched c.requires.2 c.if-progress-eq0.true (batch.ensures.batches (lent_after l a.handed_on) a.lent) in
+            call.ensures.answers.0 is_line l read written (lent-as a after lent),
+        λ is. let same = (batch.ensures.batches unsound is).untouched refl in call.ensures.answers.1 (subst (λ m. IsLent m unsound) (sym same) is) ∙ same,
       ),
     )
 
@@ -83,10 +83,10 @@ returns c =
     let s = start c.before in
     let h = s.args.held in
     let b = batch.result in
-    let text = take b.written batch.new.1.1.0 in (
+    let text = take b.written batch.new.output in (
       record {
         held = (used-within c.before, s.requires.0.1);
-        written = omega (arith, batch.ensures.1.1, batch.auto);
+        written = omega (arith, batch.ensures.within.1, batch.auto);
         room_left = λ e. true-false e refl;
         further = λ _. (omega (arith, c.if-progress-eq0.false), refl);
       },
@@ -95,12 +95,12 @@ returns c =
             let a = not-passing passing (some s c.if-from-end.false) in
             record {
               answers =
-                  subst (Answers l (length (input s)) read (written ++ text) batch.new.0 false)
+                  subst (Answers l (length (input s)) read (written ++ text) batch.new.room false)
                   (part-shorter h.from h.end b.used (input s) s.requires.0.0 s.requires.0.1 (omega (arith, used-within c.before)))
-                  (batched a (omega (arith, long s, s.requires.0.1)) (batch.ensures.0 (lent_after l a.handed_on) a.lent));
+                  (batched a (omega (arith, long s, s.requires.0.1)) (batch.ensures.batches (lent_after l a.handed_on) a.lent));
               none_left = λ e. true-false e refl;
             },
-        λ is. (batch.ensures.0 unsound is).untouched refl,
+        λ is. (batch.ensures.batches unsound is).untouched refl,
       ),
     )
 

@@ -16,17 +16,17 @@ returns-in-Written c =
     let call = c.answer-answer in
     let a = c.args in
     let size = c.in-Written.size in
-    let out = call.new.1.1.0 in
-    let promise : PromisesLine (operation_of_line a.line.now) a.room.now call.new.0 a.output.now out (answered.Written size) =
-    subst (PromisesLine (operation_of_line a.line.now) a.room.now call.new.0 a.output.now out) c.in-Written.is call.ensures in
+    let out = call.new.output in
+    let promise : PromisesLine (operation_of_line a.line.now) a.room.now call.new.room a.output.now out (answered.Written size) =
+    subst (PromisesLine (operation_of_line a.line.now) a.room.now call.new.room a.output.now out) c.in-Written.is call.ensures in
     let kept : length out ≡ length a.output.now = omega (arith, call.auto) in record { within = of-any a.room.now size (length a.output.now) (λ l is. written-within (promise l is).1 kept); answers = λ l is. (promise l is).1 }
 
 pub returns-in-OutputTooShort : goal.returns-in-OutputTooShort
 returns-in-OutputTooShort c =
     let call = c.answer-answer in
     let a = c.args in
-    let promise : PromisesLine (operation_of_line a.line.now) a.room.now call.new.0 a.output.now call.new.1.1.0 answered.OutputTooShort =
-    subst (PromisesLine (operation_of_line a.line.now) a.room.now call.new.0 a.output.now call.new.1.1.0) c.in-OutputTooShort.is call.ensures in record { within = omega arith; answers = λ l is. absurd (omega (arith, (promise l is).0, has_room (operation_of_line a.line.now), c.requires)) }
+    let promise : PromisesLine (operation_of_line a.line.now) a.room.now call.new.room a.output.now call.new.output answered.OutputTooShort =
+    subst (PromisesLine (operation_of_line a.line.now) a.room.now call.new.room a.output.now call.new.output) c.in-OutputTooShort.is call.ensures in record { within = omega arith; answers = λ l is. absurd (omega (arith, (promise l is).0, has_room (operation_of_line a.line.now), c.requires)) }
 
 pub shape_of-room-in-Written : goal.shape_of-room-in-Written
 shape_of-room-in-Written c = c.room-1.given

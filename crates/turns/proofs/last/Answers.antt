@@ -40,11 +40,11 @@ pub returns : goal.returns
 returns c =
     let call = c.answer_line in
     (
-      omega (arith, call.ensures.0, call.auto),
+      omega (arith, call.ensures.within, call.auto),
       (
         λ l read written enough is_line a. ends-in-line (length (input c.before.before.before.before.before.before.before.before.before.before.before.before.before)) enough (short c.before.before.before.before.before.before.before.before.before.before.before.before.before) is_line a (omega (arith, long c.before.before.before.before.before.before.before.before.before.before.before.before.before, c.if-end-from.false, c.requires.0.0))
-            (call.ensures.1 (lent_after l a.handed_on) a.lent),
-        λ is. (call.ensures.1 unsound is).untouched refl,
+            (call.ensures.answers (lent_after l a.handed_on) a.lent),
+        λ is. (call.ensures.answers unsound is).untouched refl,
       ),
     )
 

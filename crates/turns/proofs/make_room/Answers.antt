@@ -10,9 +10,9 @@ use Rattle.turns.proofs.make_room.Goals as goal
 pub returns-then-size-input : goal.returns-then-size-input
 returns-then-size-input c =
     let f = c.to_front-size in
-    let a = c.args in record { room = (omega arith, omega (arith, c.if-size-input.true, f.auto)); reads = stays-held (row (a.end - a.from) a.from a.input.now) f.new.0 f.result f.ensures.1 }
+    let a = c.args in record { room = (omega arith, omega (arith, c.if-size-input.true, f.auto)); reads = stays-held (row (a.end - a.from) a.from a.input.now) f.new.input f.result f.ensures.front }
 
 pub returns : goal.returns
 returns c =
     let f = c.to_front-size in
-    let a = c.args in record { room = (omega arith, omega (arith, c.requires.2, f.auto)); reads = too-long-to-hold (row (a.end - a.from) a.from a.input.now) f.new.0 f.result f.ensures.1 (omega (arith, c.if-size-input.false, f.auto)) }
+    let a = c.args in record { room = (omega arith, omega (arith, c.requires.2, f.auto)); reads = too-long-to-hold (row (a.end - a.from) a.from a.input.now) f.new.input f.result f.ensures.front (omega (arith, c.if-size-input.false, f.auto)) }

@@ -25,15 +25,15 @@ returns-then-held c =
     let call = c.answer_line-written in
     let taken = c.if-held.true in
     let h = made.result in
-    let input = made.new.0 in
-    let after = call.new.0 in
-    let text = take call.result call.new.1.1.0 in (
-      done-within h call.result input call.new.1.1.0 made.ensures.0 (omega (arith, call.ensures.0, call.auto)),
+    let input = made.new.input in
+    let after = call.new.room in
+    let text = take call.result call.new.output in (
+      done-within h call.result input call.new.output made.ensures.room (omega (arith, call.ensures.within, call.auto)),
       (
         λ is_line l read written a.
             let lent = lent_after l a.handed_on in
-            let answer = call.ensures.1 lent a.lent in
-            let (reads, held-line) = made.ensures.1 read a.handed_on is_line a.reads in
+            let answer = call.ensures.answers lent a.lent in
+            let (reads, held-line) = made.ensures.reads read a.handed_on is_line a.reads in
             let lines : passed_over h.passing input ≡ input ∷ [] = ap (λ p. passed_over p input) taken in
             record {
               answers =
@@ -42,7 +42,7 @@ returns-then-held c =
                   (subst (λ given. IsLent after (lent_after lent given)) (sym lines) (line-lent input answer));
               none_left = λ _. held-line;
             },
-        λ is. (call.ensures.1 unsound is).untouched refl,
+        λ is. (call.ensures.answers unsound is).untouched refl,
       ),
     )
 
@@ -51,13 +51,13 @@ unfolding answers_to_lines lent_after
 returns c =
     let made = c.make_room-held in
     let h = made.result in
-    let input = made.new.0 in
+    let input = made.new.input in
     let room = c.args.room.now in (
-      done-within h 0 input c.args.output.now made.ensures.0 (omega arith),
+      done-within h 0 input c.args.output.now made.ensures.room (omega arith),
       (
         λ is_line l read written a.
             let lent = lent_after l a.handed_on in
-            let (reads, held-line) = made.ensures.1 read a.handed_on is_line a.reads in
+            let (reads, held-line) = made.ensures.reads read a.handed_on is_line a.reads in
             let lines : passed_over h.passing input ≡ [] = ap (λ p. passed_over p input) c.if-held.false in
             record {
               answers =

@@ -9,7 +9,7 @@ use Rattle.validation.proofs.of_row.Goals as goal
 
 pub returns-in-DuplicateTenant : goal.returns-in-DuplicateTenant
 returns-in-DuplicateTenant c =
-    let name = c.name_at-name.ensures in record { refusal = λ here. ap (λ a. refusal_of a c.args.verdict) (ap spelled (name.0 here) ∙ spelled-stored _); form = named-form c.requires.row.name (name.0 c.requires) name.1 c.in-DuplicateTenant.keys1 }
+    let name = (c.name_at-name.ensures.name, c.name_at-name.ensures.short) in record { refusal = λ here. ap (λ a. refusal_of a c.args.verdict) (ap spelled (name.0 here) ∙ spelled-stored _); form = named-form c.requires.row.name (name.0 c.requires) name.1 c.in-DuplicateTenant.keys1 }
 
 pub returns-in_default : goal.returns-in_default
 returns-in_default c =

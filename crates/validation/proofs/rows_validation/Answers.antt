@@ -30,7 +30,7 @@ pub returns-in_default : goal.returns-in_default
 unfolding seen_in
 returns-in_default c =
     let row = c.row_validation-verdict in
-    let said = c.of_row.ensures in record { refusal = stops validating c.loop-at.invariant c.loop-at-test.true row.result row.ensures c.of_row.result said.0 c.in-Done.keys2 c.requires; form = said.1 }
+    let said = (c.of_row.ensures.refusal, c.of_row.ensures.form) in record { refusal = stops validating c.loop-at.invariant c.loop-at-test.true row.result row.ensures c.of_row.result said.0 c.in-Done.keys2 c.requires; form = said.1 }
 
 pub loop-at-preserved : goal.loop-at-preserved
 loop-at-preserved c =

@@ -39,7 +39,7 @@ by_rows c s e =
 pub returns-in_default : goal.returns-in_default
 returns-in_default c =
     let judged = c.rows_validation-judged in
-    let j = judged.result in record { refusal = λ s e. refuses (spelled j.name) j.verdict (conservation s.rows) c.in-Done.keys2 ∙ sym (by_rows c.before.before s e); form = judged.ensures.1 }
+    let j = judged.result in record { refusal = λ s e. refuses (spelled j.name) j.verdict (conservation s.rows) c.in-Done.keys2 ∙ sym (by_rows c.before.before s e); form = judged.ensures.form }
 
 pub returns : goal.returns
 returns c =

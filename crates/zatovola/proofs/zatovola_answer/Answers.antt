@@ -31,7 +31,7 @@ module _ (c : After-room_for) where
   operation = operation_of_frame start.args.frame.now
 
   needed-is : c.room_for.result ≡ room_for operation
-  needed-is = let read = c.read-operation in c.room_for.ensures start.args.frame.now read.ensures.1 ∙ ap room_for read.ensures.0
+  needed-is = let read = c.read-operation in c.room_for.ensures start.args.frame.now read.ensures.parts ∙ ap room_for read.ensures.operation
 
 module _ (c : After-answer) where
   abbrev roomed : After-room_for
@@ -55,8 +55,8 @@ returns-then-output-room_for c l is_lent = record { answered = λ room. absurd (
 pub answer-requires : goal.answer-requires
 answer-requires c =
     let read = c.read-operation in
-    let needed = c.room_for.ensures _ read.ensures.1 in
-    (found c.is_sound-known.result c.is_sound-known.ensures, (read.ensures.1, omega (arith, c.if-output-room_for.false, needed)))
+    let needed = c.room_for.ensures _ read.ensures.parts in
+    (found c.is_sound-known.result c.is_sound-known.ensures, (read.ensures.parts, omega (arith, c.if-output-room_for.false, needed)))
 
 pub returns : goal.returns
 returns c l is_lent =
