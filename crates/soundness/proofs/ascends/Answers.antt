@@ -17,10 +17,10 @@ use Rattle.soundness.proofs.ascends.Tie as tie
 use Rattle.soundness.proofs.ascends.Goals as goal
 
 abbrev Start : Type 0
-Start = place.Start tie.the-claims tie.handed_pre tie.handed_post tie.handed_clauses
+Start = place.Start tie.the-claims tie.handed_pre tie.handed_post
 
 abbrev After-later-1 : Type 0
-After-later-1 = place.After-later tie.the-claims tie.handed_pre tie.handed_post tie.handed_clauses
+After-later-1 = place.After-later tie.the-claims tie.handed_pre tie.handed_post
 
 before-decides : (o : Ordering) → Decides (o ≡ Ordering.lt) (is_before o)
 before-decides o = by_order (λ p. Decides (p ≡ Ordering.lt) (is_before p)) o (λ _. accept refl) (λ _. refuse (λ e. absurd (let z : ◌≡◌ {A = ℕ} 0 1 = cc in omega arith))) (λ _. refuse (λ e. absurd (let z : ◌≡◌ {A = ℕ} 0 1 = cc in omega arith)))

@@ -26,13 +26,13 @@ use Rattle.soundness.proofs.name_sound.Tie as tie
 use Rattle.soundness.proofs.name_sound.Goals as goal
 
 abbrev Start : Type 0
-Start = place.Start tie.the-claims tie.handed_pre tie.handed_post goal.the-invariant-loop-part goal.the-decreases-loop-part tie.handed_clauses
+Start = place.Start tie.the-claims tie.handed_pre tie.handed_post goal.the-invariant-loop-part goal.the-decreases-loop-part
 
 abbrev At-loop-part : Type 0
-At-loop-part = place.At-loop tie.the-claims tie.handed_pre tie.handed_post goal.the-invariant-loop-part goal.the-decreases-loop-part tie.handed_clauses
+At-loop-part = place.At-loop tie.the-claims tie.handed_pre tie.handed_post goal.the-invariant-loop-part goal.the-decreases-loop-part
 
 abbrev After-is_clear : Type 0
-After-is_clear = place.After-is_clear tie.the-claims tie.handed_pre tie.handed_post goal.the-invariant-loop-part goal.the-decreases-loop-part tie.handed_clauses
+After-is_clear = place.After-is_clear tie.the-claims tie.handed_pre tie.handed_post goal.the-invariant-loop-part goal.the-decreases-loop-part
 
 abbrev entry : At-loop-part → Start
 entry c = c.before.before.before.before

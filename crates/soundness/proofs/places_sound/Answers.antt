@@ -24,16 +24,16 @@ use Rattle.soundness.proofs.places_sound.Tie as tie
 use Rattle.soundness.proofs.places_sound.Goals as goal
 
 abbrev Start : Type 0
-Start = place.Start tie.the-claims tie.handed_pre tie.handed_post goal.the-invariant-loop-i goal.the-decreases-loop-i tie.handed_clauses
+Start = place.Start tie.the-claims tie.handed_pre tie.handed_post goal.the-invariant-loop-i goal.the-decreases-loop-i
 
 abbrev At-loop-i : Type 0
-At-loop-i = place.At-loop tie.the-claims tie.handed_pre tie.handed_post goal.the-invariant-loop-i goal.the-decreases-loop-i tie.handed_clauses
+At-loop-i = place.At-loop tie.the-claims tie.handed_pre tie.handed_post goal.the-invariant-loop-i goal.the-decreases-loop-i
 
 abbrev After-load_place-place : Type 0
-After-load_place-place = place.After-load_place tie.the-claims tie.handed_pre tie.handed_post goal.the-invariant-loop-i goal.the-decreases-loop-i tie.handed_clauses
+After-load_place-place = place.After-load_place tie.the-claims tie.handed_pre tie.handed_post goal.the-invariant-loop-i goal.the-decreases-loop-i
 
 abbrev Else-not-name_sound : Type 0
-Else-not-name_sound = place.Else2 tie.the-claims tie.handed_pre tie.handed_post goal.the-invariant-loop-i goal.the-decreases-loop-i tie.handed_clauses
+Else-not-name_sound = place.Else2 tie.the-claims tie.handed_pre tie.handed_post goal.the-invariant-loop-i goal.the-decreases-loop-i
 
 abbrev entry : At-loop-i → Start
 entry c = c.before.before.before
