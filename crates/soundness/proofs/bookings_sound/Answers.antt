@@ -46,7 +46,7 @@ loaded c =
 abbrev From : After-load_booking-booking → Type 0
 From c =
     let a = (entry c.before.before).args in
-    Booked c.loop-j.new a.next_id a.sizes.used c.loop-j.reserved (c.load_booking-booking.result ∷ drop (c.loop-j.j + 1) (live c.before.before))
+    Booked c.loop-j.last a.next_id a.sizes.used c.loop-j.reserved (c.load_booking-booking.result ∷ drop (c.loop-j.j + 1) (live c.before.before))
 
 abbrev Whole : At-loop-j → Type 0
 Whole c = let a = (entry c).args in Booked 0 a.next_id a.sizes.used a.reserved.now (live c)
@@ -54,9 +54,9 @@ Whole c = let a = (entry c).args in Booked 0 a.next_id a.sizes.used a.reserved.n
 seen : (c : After-load_booking-booking) → Whole c.before.before → From c
 seen c whole =
     let a = (entry c.before.before).args in
-    subst (Booked c.loop-j.new a.next_id a.sizes.used c.loop-j.reserved) (loaded c) (c.loop-j.invariant.2 whole)
+    subst (Booked c.loop-j.last a.next_id a.sizes.used c.loop-j.reserved) (loaded c) (c.loop-j.invariant.2 whole)
 
-follows : (c : Else-not-booking_sound) → Follows c.loop-j.new (entry c.before.before.before.before).args.next_id (entry c.before.before.before.before).args.sizes.used c.load_booking-booking.result
+follows : (c : Else-not-booking_sound) → Follows c.loop-j.last (entry c.before.before.before.before).args.next_id (entry c.before.before.before.before).args.sizes.used c.load_booking-booking.result
 follows c = accepted c.booking_sound.ensures c.if-not-booking_sound.false-raw
 
 -- the owner is a place, so it has its number in the array
@@ -77,7 +77,7 @@ loop-j-preserved c =
       omega arith,
       simp length-set c.loop-j.invariant.1,
       λ whole. booked-rest _ _ _ _ _ _ (follows c.before.before.before.before.before.before) few enough (seen c.before.before.before.before.before.before.before.before whole),
-      λ rest. c.loop-j.invariant.3 (subst (Booked c.loop-j.new a.next_id a.sizes.used c.loop-j.reserved) (sym (loaded c.before.before.before.before.before.before.before.before)) (booked-first _ _ _ _ _ _ (follows c.before.before.before.before.before.before) few enough rest)),
+      λ rest. c.loop-j.invariant.3 (subst (Booked c.loop-j.last a.next_id a.sizes.used c.loop-j.reserved) (sym (loaded c.before.before.before.before.before.before.before.before)) (booked-first _ _ _ _ _ _ (follows c.before.before.before.before.before.before) few enough rest)),
     )
 
 pub returns : goal.returns
@@ -85,8 +85,8 @@ returns c =
     let a = (entry c.before.before).args in
     let ended : drop c.loop-j.j (live c.before.before) ≡ [] = drop_of_length-le (live c.before.before) {i = c.loop-j.j} (omega (arith, table-length booking_of booking_size a.base a.sizes.live a.room.now)) in
     leave
-    (λ zero. c.loop-j.invariant.3 (subst (Booked c.loop-j.new a.next_id a.sizes.used c.loop-j.reserved) (sym ended) (booked-none _ _ _ _ zero)))
-    (λ whole. none-booked _ _ _ _ (subst (Booked c.loop-j.new a.next_id a.sizes.used c.loop-j.reserved) ended (c.loop-j.invariant.2 whole)))
+    (λ zero. c.loop-j.invariant.3 (subst (Booked c.loop-j.last a.next_id a.sizes.used c.loop-j.reserved) (sym ended) (booked-none _ _ _ _ zero)))
+    (λ whole. none-booked _ _ _ _ (subst (Booked c.loop-j.last a.next_id a.sizes.used c.loop-j.reserved) ended (c.loop-j.invariant.2 whole)))
 
 pub loop-j-init : goal.loop-j-init
 loop-j-init c = (omega arith, refl, λ h. h, λ h. h)
