@@ -109,7 +109,7 @@ pub loop-at-preserved : goal.loop-at-preserved
 loop-at-preserved c =
     let l = c.loop-at in
     let bytes = (entry c.before.before.before.before.before.before.before.before.before.before.before).args.bytes.now in (
-      c.put_row.auto.0 ∙ l.invariant.0,
+      c.put_row.auto.room ∙ l.invariant.0,
       (ends c.before.before.before.before.before.before.before.before.before.before).2,
       λ L is_room s e.
           subst (λ at. Passed bytes s.rows at (Put L.T L.R c.put_row.new.room c.capped-baseline.result)) (sym (ends c.before.before.before.before.before.before.before.before.before.before).1)

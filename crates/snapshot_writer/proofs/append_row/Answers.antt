@@ -19,5 +19,5 @@ returns c before rs h =
     let k = e.end + shortest_row + p.name.length - e.end in
     let width : k ≡ shortest_row + p.name.length = omega arith in
     let row : _ ≡ row_bytes (row_in_place p) = c.write_row.ensures in
-    let size : length c.write_row.new.part ≡ k = c.write_row.auto.0 ∙ row-length k e.end output (omega (arith, c.requires.room)) in
+    let size : length c.write_row.new.part ≡ k = c.write_row.auto.part ∙ row-length k e.end output (omega (arith, c.requires.room)) in
     row-behind (row_in_place p) k rs before output c.write_row.new.part e _ row size (omega (arith, c.requires.room)) (omega arith) (omega arith) h

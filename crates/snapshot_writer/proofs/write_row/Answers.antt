@@ -31,7 +31,7 @@ returns c =
     let p = c.args.place in
     let name : _ ≡ name_bytes (spelled p.name) = c.write_name.ensures in
     let amounts : _ ≡ amounts_bytes p = c.write_amounts.ensures in
-    let size : length c.write_name.new.part ≡ 1 + p.name.length = c.write_name.auto.0 ∙ named c.before.before.before.before.before.before.before.before in
+    let size : length c.write_name.new.part ≡ 1 + p.name.length = c.write_name.auto.part ∙ named c.before.before.before.before.before.before.before.before in
     two-halves (1 + p.name.length) c.args.part.now c.write_name.new.part c.write_amounts.new.part size
     ∙ ap₂ ◌++◌ name amounts
     ∙ row-bytes p

@@ -48,7 +48,7 @@ loop-i-preserved c =
     let room = c.args.room.now in
     let next = rows_next room c.requires.0.ledger c.requires.0.is_room c.loop-i.i (below c.before.before.before.before.before.before) in (
       omega (arith, c.loop-i-test.true),
-      c.append_account-extent.auto.0 ∙ c.loop-i.invariant.1,
+      c.append_account-extent.auto.output ∙ c.loop-i.invariant.1,
       subst (λ (rs : List Row). WritesRows rs c.args.output.now c.append_account-extent.new.output c.append_account-extent.result)
           (ap (λ p. rows_to room c.loop-i.i ++ row_of_place p) c.load_place.ensures ∙ sym next)
           (c.append_account-extent.ensures c.args.output.now (rows_to room c.loop-i.i) c.loop-i.invariant.2),

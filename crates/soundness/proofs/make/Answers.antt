@@ -36,11 +36,11 @@ sized c = accepted c.sizes_sound.ensures c.if-not-sizes_sound.false-raw
 
 pub store_sizes-requires : goal.store_sizes-requires
 store_sizes-requires c =
-    omega (arith, (sized c.before.before.before.before.before).size, c.clear.auto.0)
+    omega (arith, (sized c.before.before.before.before.before).size, c.clear.auto.room)
 
 pub store_head-requires : goal.store_head-requires
 store_head-requires c =
-    omega (arith, (sized c.before.before.before.before.before.before.before.before.before).size, c.clear.auto.0, c.store_sizes.auto.0)
+    omega (arith, (sized c.before.before.before.before.before.before.before.before.before).size, c.clear.auto.room, c.store_sizes.auto.room)
 
 pub returns : goal.returns
 returns c =
@@ -51,6 +51,6 @@ returns c =
     let after = c.store_head.new.room in
     subst (λ o. Makes o a.room.now (done []) after) (sym (made-here a.names a.reservations a.room.now fits.names fits.reservations fits.size)) (
       refl,
-      made-room a.names a.reservations fits.names fits.reservations after (c.store_head.auto.0 ∙ c.store_sizes.auto.0 ∙ c.clear.auto.0 ∙ fits.size)
+      made-room a.names a.reservations fits.names fits.reservations after (c.store_head.auto.room ∙ c.store_sizes.auto.room ∙ c.clear.auto.room ∙ fits.size)
           (ap contents_of written ∙ fresh-room _ _ _ fits.size c.store_sizes.ensures.fits c.store_head.ensures.fits),
     )
