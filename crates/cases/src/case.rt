@@ -120,7 +120,7 @@ fn shown_apart(
 ) -> bool {
     let place = text::place(
         operation,
-        b"-- last_version snapshot batch show-memory show-output",
+        b"-- last-version snapshot batch show-memory show-output",
     );
     match place {
         0 => heading(line),

@@ -17,7 +17,7 @@
 //   make NAMES RESERVATIONS
 //   ensure NAME AMOUNT, top-up NAME AMOUNT, limit NAME AMOUNT, reserve NAME COST, commit ID ACTUAL, release ID
 //   remaining NAME, initial NAME, committed NAME, reserved NAME
-//   committed-total, accounts, live, last_version, committed-since
+//   committed-total, accounts, live, last-version, committed-since
 //
 // These in hexadecimal, as an answer line has it, but for the size of a snapshot that was taken:
 //
