@@ -20,16 +20,16 @@ use Rattle.validation.proofs.balance_of.Tie as tie
 use Rattle.validation.proofs.balance_of.Goals as goal
 
 abbrev Start : Type 0
-Start = place.Start tie.the-claims tie.handed_pre tie.handed_post
+Start = place.Start tie.the-claims tie.handed_pre tie.handed_post tie.handed_clauses
 
 abbrev After-fit : Type 0
-After-fit = place.After-fit tie.the-claims tie.handed_pre tie.handed_post
+After-fit = place.After-fit tie.the-claims tie.handed_pre tie.handed_post tie.handed_clauses
 
 abbrev After-struct_told-2-1 : Type 0
-After-struct_told-2-1 = place.After-struct_told2 tie.the-claims tie.handed_pre tie.handed_post
+After-struct_told-2-1 = place.After-struct_told2 tie.the-claims tie.handed_pre tie.handed_post tie.handed_clauses
 
 abbrev After-fit-2 : Type 0
-After-fit-2 = place.After-fit2 tie.the-claims tie.handed_pre tie.handed_post
+After-fit-2 = place.After-fit2 tie.the-claims tie.handed_pre tie.handed_post tie.handed_clauses
 
 -- ── the exact sum ──────────────────────────────────────────────────────────────────────────────
 

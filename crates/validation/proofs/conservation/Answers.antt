@@ -13,10 +13,10 @@ use Rattle.validation.proofs.conservation.Tie as tie
 use Rattle.validation.proofs.conservation.Goals as goal
 
 abbrev In-loop-at : Type 0
-In-loop-at = place.In-loop tie.the-claims tie.handed_pre tie.handed_post goal.the-invariant-loop-at goal.the-decreases-loop-at
+In-loop-at = place.In-loop tie.the-claims tie.handed_pre tie.handed_post goal.the-invariant-loop-at goal.the-decreases-loop-at tie.handed_clauses
 
 abbrev After-name_end-at : Type 0
-After-name_end-at = place.After-name_end tie.the-claims tie.handed_pre tie.handed_post goal.the-invariant-loop-at goal.the-decreases-loop-at
+After-name_end-at = place.After-name_end tie.the-claims tie.handed_pre tie.handed_post goal.the-invariant-loop-at goal.the-decreases-loop-at tie.handed_clauses
 
 here : (c : In-loop-at) → RowOf c.args.bytes.now c.loop-at.at
 here c = row-there conserving c.loop-at.invariant c.loop-at-test.true c.requires
