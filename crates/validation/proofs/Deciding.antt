@@ -8,7 +8,7 @@ use Prim.Native.Nat.{ℕ, ◌^◌, ◌<◌}
 use denote.Enum.Declared.{tag_of, declared}
 use lib.IntN.{ℤ}
 use lib.Signed.{mag}
-use types.Run.{OneOf, miss}
+use types.Run.{OneOf, hit, miss}
 use Rattle.rules.specs.RoomAndSoundLedger.{Name}
 use Rattle.rules.specs.AnswerNumbers.{Refusal, NameTooLong}
 use Rattle.rules.specs.SnapshotsMigrationCertificates.{◌gives◌else◌, and_then, is_negative, equals}
@@ -44,6 +44,24 @@ other_tags = 1 ∷ 2 ∷ 3 ∷ 4 ∷ 5 ∷ 6 ∷ 7 ∷ 8 ∷ 9 ∷ 10 ∷ 11 ∷
 -- what code knows of a verdict that is not `Done`: its tag is one of the others
 abbrev pub NotDone : Verdict → Type 0
 NotDone v = OneOf other_tags (tag_of (declared enum) v)
+
+-- as code finds it: one that is not `Done` has one of the other tags
+pub not_done : (v : Verdict) → v ≢ verdict.Done → NotDone v
+not_done verdict.Done other = absurd (other refl)
+not_done (verdict.ActiveReservations count) other = hit other_tags 1 tt
+not_done verdict.DuplicateTenant other = hit other_tags 2 tt
+not_done (verdict.GhostReservation reserved) other = hit other_tags 3 tt
+not_done (verdict.NegativeLedgerField field value) other = hit other_tags 4 tt
+not_done (verdict.ConservationViolation delta) other = hit other_tags 5 tt
+not_done verdict.AggregateOverflow other = hit other_tags 6 tt
+not_done verdict.AlreadyRecoveryAware other = hit other_tags 7 tt
+not_done (verdict.InvalidAllocatorFence fence) other = hit other_tags 8 tt
+not_done verdict.LegacySnapshotRequiresMigration other = hit other_tags 9 tt
+not_done verdict.NameTooLong other = hit other_tags 10 tt
+not_done verdict.NamesFull other = hit other_tags 11 tt
+not_done verdict.OutputTooShort other = hit other_tags 12 tt
+not_done verdict.BadFrame other = hit other_tags 13 tt
+not_done verdict.UnsoundLedger other = hit other_tags 14 tt
 
 pub refuses : (a : Name) (v : Verdict) (later : Option Refusal) → NotDone v → refusal_of a v ≡ and_then (refusal_of a v) later
 unfolding and_then

@@ -5,10 +5,11 @@ use mathlib.Core.List.{List, [], ◌∷◌}
 use Prim.Native.Nat.{ℕ, ◌≤◌}
 use native.Mathlib.Omega.{arith}
 use denote.Enum.Declared.{tag_of, declared}
-use types.Run.{OneOf, miss}
+use types.Run.{OneOf, hit, miss}
 use Rattle.rules.specs.RoomAndSoundLedger.{Name, longest_name}
 use Rattle.rules.specs.AnswerNumbers.{Value, Amount, Identifier, Version, Fence, Count, Field, YesOrNo, TheName, SnapshotBytes, done}
 use Rattle.rules.specs.SnapshotsMigrationCertificates.{reply_or}
+use Rattle.numbers.specs.declared.Microcents.{Microcents}
 use Rattle.names.specs.Names.{spelled, stored}
 use Rattle.names.specs.declared.Name.{Name as StoredName}
 use Rattle.names.proofs.Storing.{spelled-stored}
@@ -69,6 +70,23 @@ nameless-form e = subst InStoredForm (sym e) (record { name = ap stored (sym (sp
 abbrev named_tags : List ℕ
 named_tags = 2 ∷ 3 ∷ 4 ∷ 5 ∷ []
 
+-- as code finds it: the verdict is one of the four
+abbrev pub OneOfTheNamed : Verdict → Type 0
+OneOfTheNamed v =
+    (v ≡ verdict.DuplicateTenant)
+    ⊎ (((x : Microcents) × (v ≡ verdict.GhostReservation x))
+    ⊎ (((x : ℕ) × (y : Microcents) × (v ≡ verdict.NegativeLedgerField x y))
+    ⊎ ((x : Microcents) × (v ≡ verdict.ConservationViolation x))))
+
+is_tagged : (tags : List ℕ) {u v : Verdict} → v ≡ u → OneOf tags (tag_of (declared enum) u) → OneOf tags (tag_of (declared enum) v)
+is_tagged tags e h = subst (λ w. OneOf tags (tag_of (declared enum) w)) (sym e) h
+
+pub named_tag : (v : Verdict) → OneOfTheNamed v → OneOf named_tags (tag_of (declared enum) v)
+named_tag v (inl e) = is_tagged named_tags e (hit named_tags 2 tt)
+named_tag v (inr (inl (x, e))) = is_tagged named_tags e (hit named_tags 3 tt)
+named_tag v (inr (inr (inl (x, y, e)))) = is_tagged named_tags e (hit named_tags 4 tt)
+named_tag v (inr (inr (inr (x, e)))) = is_tagged named_tags e (hit named_tags 5 tt)
+
 told_named : (a : Name) (v : Verdict) → OneOf named_tags (tag_of (declared enum) v) → told a v ≡ a
 unfolding reply_or
 told_named a verdict.Done h = absurd (miss named_tags 0 tt h)
@@ -100,6 +118,26 @@ named-form {name = name} {v = v} a is short named =
 
 abbrev other_tags : List ℕ
 other_tags = 0 ∷ 1 ∷ 6 ∷ 7 ∷ 8 ∷ 9 ∷ 10 ∷ 11 ∷ 12 ∷ 13 ∷ 14 ∷ []
+
+-- as code finds it: the verdict is none of the four
+pub other_tag : (v : Verdict) → (v ≡ verdict.DuplicateTenant → ⊥) → ((x : Microcents) → v ≡ verdict.GhostReservation x → ⊥)
+    → ((x : ℕ) (y : Microcents) → v ≡ verdict.NegativeLedgerField x y → ⊥) → ((x : Microcents) → v ≡ verdict.ConservationViolation x → ⊥)
+    → OneOf other_tags (tag_of (declared enum) v)
+other_tag verdict.Done d g f c = hit other_tags 0 tt
+other_tag (verdict.ActiveReservations count) d g f c = hit other_tags 1 tt
+other_tag verdict.DuplicateTenant d g f c = absurd (d refl)
+other_tag (verdict.GhostReservation reserved) d g f c = absurd (g reserved refl)
+other_tag (verdict.NegativeLedgerField field value) d g f c = absurd (f field value refl)
+other_tag (verdict.ConservationViolation delta) d g f c = absurd (c delta refl)
+other_tag verdict.AggregateOverflow d g f c = hit other_tags 6 tt
+other_tag verdict.AlreadyRecoveryAware d g f c = hit other_tags 7 tt
+other_tag (verdict.InvalidAllocatorFence fence) d g f c = hit other_tags 8 tt
+other_tag verdict.LegacySnapshotRequiresMigration d g f c = hit other_tags 9 tt
+other_tag verdict.NameTooLong d g f c = hit other_tags 10 tt
+other_tag verdict.NamesFull d g f c = hit other_tags 11 tt
+other_tag verdict.OutputTooShort d g f c = hit other_tags 12 tt
+other_tag verdict.BadFrame d g f c = hit other_tags 13 tt
+other_tag verdict.UnsoundLedger d g f c = hit other_tags 14 tt
 
 -- what carries no name is said of any row alike
 pub of-any-row : (a : Name) (v : Verdict) → OneOf other_tags (tag_of (declared enum) v) → refusal_in (nameless v) ≡ refusal_of a v

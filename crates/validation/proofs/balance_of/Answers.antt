@@ -13,23 +13,23 @@ use Rattle.rules.specs.AnswerNumbers.{ConservationViolation}
 use Rattle.numbers.proofs.Amounts.{held-is}
 use Rattle.totals.specs.Totals.{value_of, fitted}
 use Rattle.totals.proofs.Fitting.{fits-is, outside-is}
-use Rattle.validation.proofs.Balancing.{overflows, delta-overflows, differs, is_negative, balanced}
+use Rattle.validation.proofs.Balancing.{overflows, delta-overflows, differs, below_zero, balanced}
 use Rattle.validation.proofs.Deciding.{sign-is}
 use Rattle.validation.proofs.balance_of.Lts as place
 use Rattle.validation.proofs.balance_of.Tie as tie
 use Rattle.validation.proofs.balance_of.Goals as goal
 
 abbrev Start : Type 0
-Start = place.Start tie.the-claims tie.handed_pre tie.handed_post
+Start = place.Start tie.the-claims tie.handed_pre tie.handed_post tie.handed_clauses
 
 abbrev After-fit : Type 0
-After-fit = place.After-fit tie.the-claims tie.handed_pre tie.handed_post
+After-fit = place.After-fit tie.the-claims tie.handed_pre tie.handed_post tie.handed_clauses
 
 abbrev After-struct_told-2-1 : Type 0
-After-struct_told-2-1 = place.After-struct_told2 tie.the-claims tie.handed_pre tie.handed_post
+After-struct_told-2-1 = place.After-struct_told2 tie.the-claims tie.handed_pre tie.handed_post tie.handed_clauses
 
 abbrev After-fit-2 : Type 0
-After-fit-2 = place.After-fit2 tie.the-claims tie.handed_pre tie.handed_post
+After-fit-2 = place.After-fit2 tie.the-claims tie.handed_pre tie.handed_post tie.handed_clauses
 
 -- ── the exact sum ──────────────────────────────────────────────────────────────────────────────
 
@@ -74,7 +74,7 @@ module _ (c : After-struct_told-2-1) where
   found = c.in-Fits.exact.0
 
   found_is : (found ≡ exact summed) × (fits64 (exact summed) ≡ true)
-  found_is = let told = c.exact-1.given in fits-is (exact summed) told.0.0 (fitted-sum summed ∙ told.1)
+  found_is = fits-is (exact summed) c.in-Fits.exact (fitted-sum summed ∙ c.in-Fits.is)
 
   equal : of_z w64 found ≡ of_z w64 (initial summed) → exact summed ≡ initial summed
   equal e = sym found_is.0 ∙ sym (held-is found c.struct_told-1.given.0.1) ∙ ap (to_z w64) e ∙ held-is (initial summed) c.struct_told-2-1.given.0.1
@@ -85,7 +85,7 @@ module _ (c : After-struct_told-2-1) where
 pub returns-then-remaining-lt0 : goal.returns-then-remaining-lt0
 returns-then-remaining-lt0 c a =
     let f = summed c.before.before.before.before in
-    sym (is_negative a (initial f) (remaining f) (reserved f) (committed f) (found_is c.before.before.before.before).1 (equal c.before.before.before.before c.if-exact-initial.true) (sign-is {z = remaining f} true refl c.struct_told-then-exact-initial-1.given.0.1 c.if-remaining-lt0.true))
+    sym (below_zero a (initial f) (remaining f) (reserved f) (committed f) (found_is c.before.before.before.before).1 (equal c.before.before.before.before c.if-exact-initial.true) (sign-is {z = remaining f} true refl c.struct_told-then-exact-initial-1.given.0.1 c.if-remaining-lt0.true))
 
 pub returns-then-exact-initial : goal.returns-then-exact-initial
 returns-then-exact-initial c a =
@@ -107,6 +107,5 @@ returns-in_default-fit c a =
 pub returns : goal.returns
 returns c a =
     let f = summed c.before.before.before.before in
-    let told = c.delta-1.given in
-    let (is, fits) = fits-is (exact f -ℤ initial f) told.0.0 (fitted-delta c.before ∙ told.1) in
+    let (is, fits) = fits-is (exact f -ℤ initial f) c.in-Fits-fit.delta (fitted-delta c.before ∙ c.in-Fits-fit.is) in
     ap (λ z. some (ConservationViolation a z)) is ∙ sym (differs a (initial f) (remaining f) (reserved f) (committed f) (found_is c.before.before.before.before).1 (other c.before.before.before.before c.if-exact-initial.false) fits)

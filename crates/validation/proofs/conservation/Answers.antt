@@ -6,6 +6,7 @@ use borrow.Author.Rules.{rules}
 use lib.ListN.{length}
 use Rattle.snapshot_reader.specs.Standing.{RowOf}
 use Rattle.snapshot_reader.proofs.Rows.{Further, forward}
+use Rattle.validation.proofs.Deciding.{not_done}
 use Rattle.validation.proofs.StoredForm.{nameless-form}
 use Rattle.validation.proofs.Passing.{conserving, Coming, first, row-there, standing, stops, goes_on, none-bad}
 use Rattle.validation.proofs.conservation.Lts as place
@@ -13,10 +14,10 @@ use Rattle.validation.proofs.conservation.Tie as tie
 use Rattle.validation.proofs.conservation.Goals as goal
 
 abbrev In-loop-at : Type 0
-In-loop-at = place.In-loop tie.the-claims tie.handed_pre tie.handed_post goal.the-invariant-loop-at goal.the-decreases-loop-at
+In-loop-at = place.In-loop tie.the-claims tie.handed_pre tie.handed_post goal.the-invariant-loop-at goal.the-decreases-loop-at tie.handed_clauses
 
 abbrev After-name_end-at : Type 0
-After-name_end-at = place.After-name_end tie.the-claims tie.handed_pre tie.handed_post goal.the-invariant-loop-at goal.the-decreases-loop-at
+After-name_end-at = place.After-name_end tie.the-claims tie.handed_pre tie.handed_post goal.the-invariant-loop-at goal.the-decreases-loop-at tie.handed_clauses
 
 here : (c : In-loop-at) → RowOf c.args.bytes.now c.loop-at.at
 here c = row-there conserving c.loop-at.invariant c.loop-at-test.true c.requires
@@ -28,7 +29,9 @@ further c = forward (standing (here c.before.before.before)) c.name_end-at.ensur
 pub returns-in_default : goal.returns-in_default
 returns-in_default c =
     let row = c.row_conservation-verdict in
-    let said = (c.of_row.ensures.refusal, c.of_row.ensures.form) in record { refusal = stops conserving c.loop-at.invariant c.loop-at-test.true row.result row.ensures c.of_row.result said.0 c.in-Done.keys2 c.requires; form = said.1 }
+    let said = c.of_row.ensures in
+    let other = not_done row.result c.in_default.not-Done in
+    record { refusal = stops conserving c.loop-at.invariant c.loop-at-test.true row.result row.ensures c.of_row.result said.refusal other c.requires; form = said.form }
 
 pub loop-at-preserved : goal.loop-at-preserved
 loop-at-preserved c =

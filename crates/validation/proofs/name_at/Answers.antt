@@ -13,7 +13,7 @@ use Rattle.validation.proofs.name_at.Tie as tie
 use Rattle.validation.proofs.name_at.Goals as goal
 
 abbrev After-name_end-end : Type 0
-After-name_end-end = place.After-name_end tie.the-claims tie.handed_pre tie.handed_post
+After-name_end-end = place.After-name_end tie.the-claims tie.handed_pre tie.handed_post tie.handed_clauses
 
 ends : (c : After-name_end-end) → EndsName c.args.bytes.now c.args.at c.requires.row c.requires.later c.name_end-end.result
 ends c = c.name_end-end.ensures c.requires.row c.requires.later c.requires.from

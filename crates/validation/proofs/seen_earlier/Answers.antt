@@ -87,10 +87,10 @@ returns-then-is_same c here =
 pub loop-earlier-preserved : goal.loop-earlier-preserved
 loop-earlier-preserved c here =
     let i = turn c.before.before in
-    advance (i.loop-earlier.invariant here) (omega (arith, i.loop-earlier-test.taken, here.from.within)) c.name_end-earlier_end.ensures
+    advance (i.loop-earlier.invariant here) (omega (arith, i.loop-earlier-test.true, here.from.within)) c.name_end-earlier_end.ensures
     (λ a.
     let other : same here.row.name a.row.name ≡ false = compared c.before.before here a.row a.later a.from ∙ c.if-is_same.false in
-    (towards-turn here.from a.from i.loop-earlier-test.taken a.so_far.0, any-before (is_named here.row.name) a.earlier a.row a.so_far.1 other))
+    (towards-turn here.from a.from i.loop-earlier-test.true a.so_far.0, any-before (is_named here.row.name) a.earlier a.row a.so_far.1 other))
 
 pub returns : goal.returns
 returns c here =

@@ -12,7 +12,6 @@ use Rattle.validation.proofs.status.Goals as goal
 pub returns-then-has_long_name : goal.returns-then-has_long_name
 unfolding status
 returns-then-has_long_name c = record { answer = λ s e. ap judged_reply c.nameless.ensures ∙ ap (λ o. reply_or o (done [])) (sym (decides _ _ _ (sym (c.has_long_name.ensures s e) ∙ c.if-has_long_name.true))); form = nameless-form c.nameless.ensures }
-)
 
 pub conservation-requires : goal.conservation-requires
 conservation-requires c =

@@ -11,22 +11,24 @@ use Rattle.rules.specs.SnapshotsMigrationCertificates.{and_then, conservation, v
 use Rattle.snapshot_reader.specs.Standing.{OfSnapshot}
 use Rattle.names.specs.Names.{spelled}
 use Rattle.validation.specs.Judgement.{refusal_in}
-use Rattle.validation.proofs.Deciding.{decides, goes_on, refuses, passes_on}
+use Rattle.validation.proofs.Deciding.{decides, goes_on, not_done, refuses, passes_on}
 use Rattle.validation.proofs.StoredForm.{nameless-form}
 use Rattle.validation.proofs.validation.Lts as place
 use Rattle.validation.proofs.validation.Tie as tie
 use Rattle.validation.proofs.validation.Goals as goal
 
 abbrev After-rows_validation-judged : Type 0
-After-rows_validation-judged = place.After-rows_validation tie.the-claims tie.handed_pre tie.handed_post
+After-rows_validation-judged = place.After-rows_validation tie.the-claims tie.handed_pre tie.handed_post tie.handed_clauses
 
 pub returns-then-active-gt0 : goal.returns-then-active-gt0
 unfolding validation
-returns-then-active-gt0 c = record { refusal = λ s e.
+returns-then-active-gt0 c = record {
+  refusal = λ s e.
       let active = c.active-active in
       let some-live : 0 < s.active = omega (arith, active.ensures s e, c.if-active-gt0.true) in
-      ap refusal_in c.nameless.ensures ∙ ap (λ n. some (ActiveReservations n)) (active.ensures s e) ∙ sym (decides _ _ _ (lt-ltb 0 s.active some-live)); form = nameless-form c.nameless.ensures }
-)
+      ap refusal_in c.nameless.ensures ∙ ap (λ n. some (ActiveReservations n)) (active.ensures s e) ∙ sym (decides _ _ _ (lt-ltb 0 s.active some-live));
+  form = nameless-form c.nameless.ensures;
+}
 
 -- none live: the rows decide, and then their conservation
 by_rows : (c : After-rows_validation-judged)
@@ -39,7 +41,7 @@ by_rows c s e =
 pub returns-in_default : goal.returns-in_default
 returns-in_default c =
     let judged = c.rows_validation-judged in
-    let j = judged.result in record { refusal = λ s e. refuses (spelled j.name) j.verdict (conservation s.rows) c.in-Done.keys2 ∙ sym (by_rows c.before.before s e); form = judged.ensures.form }
+    let j = judged.result in record { refusal = λ s e. refuses (spelled j.name) j.verdict (conservation s.rows) (not_done j.verdict c.in_default.not-Done) ∙ sym (by_rows c.before.before s e); form = judged.ensures.form }
 
 pub returns : goal.returns
 returns c =
