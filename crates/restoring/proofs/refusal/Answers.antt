@@ -12,29 +12,29 @@ use Rattle.rules.specs.AnswerNumbers.{Refusal, NamesFull}
 use Rattle.rules.specs.SnapshotsMigrationCertificates.{Snapshot, snapshot_of_bytes, has_long_name, passes, ◌gives◌else◌, and_then, validation, restore_refusal}
 use Rattle.names.specs.Names.{spelled}
 use Rattle.validation.specs.Judgement.{refusal_of, refusal_in}
-use Rattle.validation.proofs.Deciding.{decides, goes_on, refuses, passes_on}
+use Rattle.validation.proofs.Deciding.{decides, goes_on, not_done, refuses, passes_on}
 use Rattle.validation.proofs.StoredForm.{nameless-form}
 use Rattle.restoring.proofs.refusal.Lts as place
 use Rattle.restoring.proofs.refusal.Tie as tie
 use Rattle.restoring.proofs.refusal.Goals as goal
 
 abbrev Start : Type 0
-Start = place.Start tie.the-claims tie.handed_pre tie.handed_post
+Start = place.Start tie.the-claims tie.handed_pre tie.handed_post tie.handed_clauses
 
 abbrev Else-has_long_name : Type 0
-Else-has_long_name = place.Else1 tie.the-claims tie.handed_pre tie.handed_post
+Else-has_long_name = place.Else1 tie.the-claims tie.handed_pre tie.handed_post tie.handed_clauses
 
 abbrev After-validation-judged : Type 0
-After-validation-judged = place.After-validation tie.the-claims tie.handed_pre tie.handed_post
+After-validation-judged = place.After-validation tie.the-claims tie.handed_pre tie.handed_post tie.handed_clauses
 
 abbrev After-count : Type 0
-After-count = place.After-count tie.the-claims tie.handed_pre tie.handed_post
+After-count = place.After-count tie.the-claims tie.handed_pre tie.handed_post tie.handed_clauses
 
 abbrev Read : Start → Snapshot → Type 0
 Read c s = snapshot_of_bytes c.args.bytes.now ≡ some s
 
 abbrev refusal : Start → Snapshot → Option Refusal
-refusal c s = restore_refusal (refusal_of [] c.args.of-version) c.args.names s
+refusal c s = restore_refusal (refusal_of [] c.args.of_version) c.args.names s
 
 abbrev of_room : Start → Snapshot → Option Refusal
 of_room c s = ltb c.args.names (length s.rows) gives NamesFull else passes
@@ -48,12 +48,12 @@ returns-then-has_long_name c = record { refusal = λ s e. ap refusal_in c.namele
 short_names : (c : Else-has_long_name) (s : Snapshot) → Read c.before.before.before s → has_long_name s.rows ≡ false
 short_names c s e = sym (c.has_long_name.ensures s e) ∙ c.if-has_long_name.false
 
-by-version : (c : Else-has_long_name) (s : Snapshot) → Read c.before.before.before s → refusal c.before.before.before s ≡ and_then (refusal_of [] c.args.of-version) (and_then (validation s) (of_room c.before.before.before s))
+by-version : (c : Else-has_long_name) (s : Snapshot) → Read c.before.before.before s → refusal c.before.before.before s ≡ and_then (refusal_of [] c.args.of_version) (and_then (validation s) (of_room c.before.before.before s))
 unfolding restore_refusal
 by-version c s e = goes_on _ _ _ (short_names c s e)
 
 pub returns-in_default : goal.returns-in_default
-returns-in_default c = record { refusal = λ s e. ap refusal_in c.nameless-in_default.ensures ∙ refuses [] c.args.of-version _ c.in-Done.keys2 ∙ sym (by-version c.before.before.before s e); form = nameless-form c.nameless-in_default.ensures }
+returns-in_default c = record { refusal = λ s e. ap refusal_in c.nameless-in_default.ensures ∙ refuses [] c.args.of_version _ (not_done c.args.of_version c.in_default.not-Done) ∙ sym (by-version c.before.before.before s e); form = nameless-form c.nameless-in_default.ensures }
 
 pub validation-judged-requires : goal.validation-judged-requires
 validation-judged-requires c =
@@ -62,12 +62,12 @@ validation-judged-requires c =
 
 by-validation : (c : After-validation-judged) (s : Snapshot) → Read c.before.before.before.before.before s → refusal c.before.before.before.before.before s ≡ and_then (refusal_in c.validation-judged.result) (of_room c.before.before.before.before.before s)
 by-validation c s e =
-    by-version c.before.before s e ∙ passes_on [] c.args.of-version _ c.in-Done.is ∙ ap (λ o. and_then o (of_room c.before.before.before.before.before s)) (sym (c.validation-judged.ensures.refusal s e))
+    by-version c.before.before s e ∙ passes_on [] c.args.of_version _ c.in-Done.is ∙ ap (λ o. and_then o (of_room c.before.before.before.before.before s)) (sym (c.validation-judged.ensures.refusal s e))
 
 pub returns-in_default-verdict : goal.returns-in_default-verdict
 returns-in_default-verdict c =
     let judged = c.validation-judged in
-    let j = judged.result in record { refusal = λ s e. refuses (spelled j.name) j.verdict _ c.in-Done-verdict.keys2 ∙ sym (by-validation c.before.before s e); form = judged.ensures.form }
+    let j = judged.result in record { refusal = λ s e. refuses (spelled j.name) j.verdict _ (not_done j.verdict c.in_default-verdict.not-Done) ∙ sym (by-validation c.before.before s e); form = judged.ensures.form }
 
 -- ── the snapshot is valid: the room for names decides ──────────────────────────────────────────
 

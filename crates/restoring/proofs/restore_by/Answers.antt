@@ -3,25 +3,26 @@
 use mathlib.Core.List.{[]}
 use borrow.Author.Rules.{rules}
 use Rattle.validation.specs.Judgement.{refusal_of}
+use Rattle.validation.proofs.Deciding.{not_done}
 use Rattle.restoring.proofs.Restoring.{Told, checked, refused, taken, replaced}
 use Rattle.restoring.proofs.restore_by.Lts as place
 use Rattle.restoring.proofs.restore_by.Tie as tie
 use Rattle.restoring.proofs.restore_by.Goals as goal
 
 abbrev After-shared_slice_known-1 : Type 0
-After-shared_slice_known-1 = place.After-shared_slice_known tie.the-claims tie.handed_pre tie.handed_post
+After-shared_slice_known-1 = place.After-shared_slice_known tie.the-claims tie.handed_pre tie.handed_post tie.handed_clauses
 
 abbrev After-refusal-judged : Type 0
-After-refusal-judged = place.After-refusal tie.the-claims tie.handed_pre tie.handed_post
+After-refusal-judged = place.After-refusal tie.the-claims tie.handed_pre tie.handed_post tie.handed_clauses
 
 abbrev entry : After-refusal-judged → After-shared_slice_known-1
 entry c = c.before.before
 
-told : (c : After-refusal-judged) → let a = (entry c).args in Told (refusal_of [] a.of-version) a.room.now a.bytes.now c.refusal-judged.result
+told : (c : After-refusal-judged) → let a = (entry c).args in Told (refusal_of [] a.of_version) a.room.now a.bytes.now c.refusal-judged.result
 told c = checked c.load_sizes-sizes.ensures c.refusal-judged.ensures.refusal
 
 pub returns-in_default : goal.returns-in_default
-returns-in_default c = record { performs = refused (told c.before.before) c.in-Done.keys2; form = c.refusal-judged.ensures.form }
+returns-in_default c = record { performs = refused (told c.before.before) (not_done c.refusal-judged.result.verdict c.in_default.not-Done); form = c.refusal-judged.ensures.form }
 
 pub fill-requires : goal.fill-requires
 fill-requires c =
