@@ -8,7 +8,7 @@ def layers():
     """The layers of crates.txt, lowest first, each a name and its crates in their order. A layer begins with a line `# == NAME ==`."""
     found = [["crates", []]]
     for line in (TOP / "crates.txt").read_text().splitlines():
-        heading, crate = re.match(r"#\s*==\s*(.*?)\s*==", line), re.match(r"(\w+):", line)
+        heading, crate = re.match(r"#\s*==\s*(.*?)\s*==", line), re.match(r"(\w+)(?: staticlib)?:", line)
         if heading:
             found.append([heading.group(1), []])
         elif crate:
@@ -18,6 +18,11 @@ def layers():
 
 def crates():
     return [crate for _, those in layers() for crate in those]
+
+
+def clauses(signature):
+    """The clauses of a function's signature, each as (word, name, fact)."""
+    return [m.groups() for m in re.finditer(r"(?ms)^\s+(requires|ensures)(?: (\w+))? \{ (.*?) \}$", signature)]
 
 
 def write_or_check(document, text, by):
