@@ -3,11 +3,11 @@
 -- A plan knows no id: the one that it draws, and the one that it ends, are read off the stage where it is enacted. A move or a settlement enacts its
 -- plan case by case, and only a rule that would draw an id asks how far the ids are (`asks-last`).
 use mathlib.Core.Path.{◌≡◌, refl, sym, ◌∙◌, ap, subst}
-use mathlib.Core.Bool.{Bool, true, false, not, cond, ◌&&◌, ◌||◌}
+use mathlib.Core.Bool.{Bool, true, false, cond, ◌&&◌, ◌||◌}
 use mathlib.Core.List.{List, [], ◌∷◌, ◌++◌}
 use mathlib.Core.Option.{Option, none, some}
 use Prim.Native.Nat.{ℕ, zero, suc, ◌+◌}
-use lib.Dec.{ltb, eqb}
+use lib.Dec.{ltb}
 use lib.IntN.{ℤ, pos, negsuc}
 use lib.ListN.{length}
 use Rattle.rules.specs.RoomAndSoundLedger.{M, Name, Account, Seat, Booking, Ledger, with_places, with_bookings, seat_in}

@@ -12,9 +12,9 @@ use lib.Dec.{ltb}
 use lib.IntN.{pos}
 use lib.ListN.{length}
 use Rattle.rules.specs.Lists.{sum, All, Pairwise}
-use Rattle.rules.specs.RoomAndSoundLedger.{M, longest_name, most_names, most_reservations, IsName, Account, seat, Place, place, is_vacant, Ledger, holds_place, reserved_for, committed_of, committed_total, InRange, Before, has_tag, fence_of, Sound, fresh}
+use Rattle.rules.specs.RoomAndSoundLedger.{M, longest_name, most_names, most_reservations, IsName, Account, Place, place, is_vacant, Ledger, holds_place, reserved_for, committed_of, committed_total, InRange, Before, has_tag, fence_of, Sound, fresh}
 use Rattle.rules.specs.AnswerNumbers.{Refusal, Outcome, Lent, sound, unsound, LentSound, on_lent}
-use Rattle.rules.specs.AccountRules.{account, natural, is_too_long, next_id_is_m}
+use Rattle.rules.specs.AccountRules.{natural, is_too_long, next_id_is_m}
 use Rattle.rules.specs.SnapshotsMigrationCertificates.{Row, Snapshot, row_at, account_rows, tagged, after_snapshot, snapshot_of, taking_snapshot, too_short_for, snapshot, fits64, restore_version, recovery_version, restored_seat, restored_places, restored, or_else, restore_refusal, restore, recovery_restore, exact_total, initial_total, committed_rows_total, totals_fit, certificate_of_ledger, conservation_proof}
 use Rattle.rules.specs.Frames.{Operation, on_account, take_snapshot, certify_ledger, prove_conservation, restore_from, recover_from, judge, migrate_to, certify, longest_snapshot, answer}
 use Rattle.rules.specs.Domain.{RowFits, SnapshotFits, OperationFits}

@@ -13,7 +13,7 @@ use lib.IntN.{ℤ, pos, negsuc, ◌-ℤ◌}
 use lib.Signed.{lt_z}
 use lib.ListN.{length, length-append}
 use Rattle.rules.specs.Lists.{first, All}
-use Rattle.rules.specs.RoomAndSoundLedger.{M, longest_name, Name, IsName, same, Account, Seat, seat, Place, is_vacant, Booking, Ledger, is_at, seat_of, holds_place, seat_in, has_account, share, reserved_for, committed_of, committed_total, Sound}
+use Rattle.rules.specs.RoomAndSoundLedger.{M, longest_name, Name, IsName, same, Account, Seat, Place, is_vacant, Booking, Ledger, is_at, seat_of, holds_place, seat_in, has_account, share, reserved_for, committed_of, committed_total, Sound}
 use Rattle.rules.specs.AnswerNumbers.{Outcome}
 use Rattle.rules.specs.AccountRules.{Move, refuse, tell, write, lose, book, Settlement, leave, end, ensure_rule, top_up_rule, limit_rule, reserve_rule, commit_rule, release_rule, read_rule, read_reserved_rule, put, freed, seated, has_room, booked, ended, perform, settle, AccountOperation, ensure, top_up, limit, reserve, commit, release, read_remaining, read_initial, read_committed, read_reserved, is_too_long, named, on_name, on_booking, next_id_is_m, operate, Rule, rule_of, for_reservation, apply, for_name}
 use Rattle.rules.specs.Domain.{IsAmount, IsBytes, AccountOperationFits}

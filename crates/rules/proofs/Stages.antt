@@ -11,7 +11,7 @@ use lib.ListN.{length}
 use Rattle.rules.specs.Lists.{first, keep, All, Pairwise}
 use Rattle.rules.specs.RoomAndSoundLedger.{Name, Seat, Booking, Ledger, Sound}
 use Rattle.rules.specs.AccountRules.{booked, ended}
-use Rattle.rules.specs.OrderBetweenAirlines.{Which, live_at_start, grant, Reference, reference, Note, is_note_of, is_note_for, id_of, reference_of, is_grant_of, grants_of, Stage, note_at_start, start}
+use Rattle.rules.specs.OrderBetweenAirlines.{Which, live_at_start, grant, Reference, Note, is_note_of, is_note_for, id_of, reference_of, is_grant_of, grants_of, Stage, note_at_start, start}
 use Rattle.rules.proofs.Tests.{by-test, by-option, none-some}
 use Rattle.rules.proofs.Lists.{first-all, all_map, all_both, all_keep, all_more}
 use Rattle.rules.proofs.Names.{same_self}

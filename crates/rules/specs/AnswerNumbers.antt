@@ -1,6 +1,5 @@
 -- Document 01, section "Answer numbers".
 use Rattle.std.specs.Prelude.{Bool, List, [], ◌∷◌, ℕ, ℤ}
-use Rattle.std.proofs.Math.Option.{Option, none, some}
 use Rattle.rules.specs.RoomAndSoundLedger.{Name, Ledger, Sound}
 
 -- What an answer can carry
