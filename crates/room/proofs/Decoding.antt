@@ -7,7 +7,7 @@ use mathlib.Core.Option.{Option, none, some}
 use Prim.Native.Nat.{ℕ, suc}
 use lib.ListN.{length, get_or, take}
 use Rattle.rules.specs.Lists.{any, All}
-use Rattle.rules.specs.RoomAndSoundLedger.{Name, IsByte, same, Account, seat, Place as RulesPlace, place, Booking as RulesBooking, Ledger, is_at, seat_in, has_account, holds_place, Sound}
+use Rattle.rules.specs.RoomAndSoundLedger.{Name, IsByte, Account, seat, Place as RulesPlace, place, Booking as RulesBooking, Ledger, is_at, seat_in, has_account, holds_place, Sound}
 use Rattle.rules.proofs.Tests.{by_bool, true-false}
 use Rattle.rules.proofs.Names.{same_true}
 use Rattle.rules.proofs.Places.{account-holds}

@@ -1,6 +1,6 @@
 -- Laws of a total's two words over ℤ: an amount's word is added to the low one, and the high one moves by a carry or a borrow.
 use mathlib.Core.Path.{◌≡◌, sym, ◌∙◌, ap}
-use Prim.Native.Nat.{ℕ, zero, suc, ◌+◌, ◌-◌, ◌^◌, ◌≤◌, ◌<◌}
+use Prim.Native.Nat.{ℕ, zero, suc, ◌+◌, ◌^◌, ◌≤◌, ◌<◌}
 use native.Mathlib.Omega.{arith}
 use borrow.Author.Tests.{le-ltb}
 use lib.IntN.{ℤ, pos, negsuc, ◌+ℤ◌, ◌-ℤ◌, ◌*ℤ◌, neg_ℤ, suc_ℤ, pred_ℤ, +ℤ_assoc, +ℤ_one, -ℤ_one, suc_ℤ-*ℤ, +ℤ-neg_ℤ_cancel, -ℤ-+ℤ_cancel}

@@ -1,5 +1,5 @@
 -- A total of two words: the integer that they are, and whether 64 bits hold it.
-use Rattle.std.specs.Prelude.{cond, ℕ, ◌+◌, ◌^◌, ◌≤◌, ℤ, pos, ◌+ℤ◌, ◌*ℤ◌}
+use Rattle.std.specs.Prelude.{cond, ℕ, ◌^◌, ◌≤◌, ℤ, pos, ◌+ℤ◌, ◌*ℤ◌}
 use Rattle.std.specs.Int.Signed.{mag}
 use Rattle.rules.specs.SnapshotsMigrationCertificates.{fits64}
 use Rattle.totals.specs.declared.Total.{Total}

@@ -1,7 +1,6 @@
 -- `big_endian::read2` meets its contract: the bytes joined are the little-endian number of the bytes backwards, by the one law that serves every size.
 use mathlib.Core.Path.{◌∙◌}
 use native.Mathlib.Omega.{arith}
-use borrow.Author.Rules.{rules}
 use mir.Facts.{Fits-8_64}
 use Rattle.numbers.proofs.LittleEndian.{read_number}
 use Rattle.big_endian.proofs.BigEndian.{backwards, backwards-length, backwards-fit, backwards-number}

@@ -1,7 +1,6 @@
 -- `big_endian::read8` meets its contract: as `read2`, by the same law at another size; each byte is known to fit.
 use mathlib.Core.Path.{◌∙◌}
 use native.Mathlib.Omega.{arith}
-use borrow.Author.Rules.{rules}
 use mir.Facts.{Fits-8_64}
 use Rattle.numbers.proofs.LittleEndian.{read_number}
 use Rattle.big_endian.proofs.BigEndian.{backwards, backwards-length, backwards-fit, backwards-number}

@@ -1,6 +1,5 @@
 -- `big_endian::read_amount` meets its contract: `signed` of what `read8` reads.
 use mathlib.Core.Path.{◌∙◌, ap}
-use borrow.Author.Rules.{rules}
 use Rattle.rules.specs.SnapshotsMigrationCertificates.{signed}
 use Rattle.big_endian.proofs.read_amount.Goals as goal
 

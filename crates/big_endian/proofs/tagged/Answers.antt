@@ -1,6 +1,5 @@
 -- `big_endian::tagged` meets its contract: a fence of at most M leaves bit 63 free, so the sum stays in 64 bits.
 use native.Mathlib.Omega.{arith}
-use borrow.Author.Rules.{rules}
 use Rattle.rules.specs.RoomAndSoundLedger.{M}
 use Rattle.big_endian.proofs.tagged.Goals as goal
 

@@ -1,7 +1,6 @@
 -- `big_endian::write2` meets its contract: each byte is a quotient's remainder, by the one law that serves every size (BigEndian); no store changes the
 -- length.
 use native.Mathlib.Omega.{arith}
-use borrow.Author.Rules.{rules}
 use lib.ListN.{length-set}
 use Rattle.big_endian.proofs.BigEndian.{write-number}
 use Rattle.big_endian.proofs.write2.Goals as goal

@@ -1,6 +1,5 @@
 -- `big_endian::write8` meets its contract: as `write2`, by the same law at another size.
 use native.Mathlib.Omega.{arith}
-use borrow.Author.Rules.{rules}
 use lib.ListN.{length-set}
 use Rattle.big_endian.proofs.BigEndian.{write-number}
 use Rattle.big_endian.proofs.write8.Goals as goal

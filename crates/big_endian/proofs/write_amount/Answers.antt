@@ -1,6 +1,5 @@
 -- `big_endian::write_amount` meets its contract: `write8` of the amount's word.
 use mathlib.Core.Path.{◌∙◌, ap}
-use borrow.Author.Rules.{rules}
 use Rattle.rules.specs.SnapshotsMigrationCertificates.{bytes_of}
 use Rattle.big_endian.proofs.write_amount.Goals as goal
 

@@ -1,5 +1,4 @@
 -- `digits::character`: the lent table comes with its rule, `Gives character_of`, and the proof is that rule at the digit.
-use borrow.Author.Rules.{rules}
 use Rattle.digits.specs.Tables.{Gives}
 use Rattle.digits.proofs.character.Goals as goal
 

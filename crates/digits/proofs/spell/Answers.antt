@@ -1,12 +1,10 @@
 -- `digits::spell`, by a loop whose invariant is `Underway`: the bytes before i are as they were, and from i + i on stands the line of the others. `turn` of
 -- Spelling.antt adds a byte; the loop counts down, so i itself is the measure.
 use mathlib.Core.Path.{◌≡◌, refl, subst}
-use Prim.Native.Nat.{suc, ◌-◌, ◌≤◌}
+use Prim.Native.Nat.{suc, ◌-◌}
 use native.Mathlib.Omega.{arith}
-use borrow.Author.Rules.{rules}
-use lib.ListN.{length, length-set}
+use lib.ListN.{length-set}
 use Rattle.rules.specs.Frames.{character_of}
-use Rattle.digits.specs.Tables.{Gives}
 use Rattle.digits.proofs.Tables.{gives}
 use Rattle.digits.proofs.Spelling.{Underway, begun, turn}
 use Rattle.digits.proofs.spell.Goals as goal

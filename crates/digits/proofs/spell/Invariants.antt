@@ -1,14 +1,11 @@
 -- `digits::spell`, by a loop whose invariant is `Underway`: the bytes before i are as they were, and from i + i on stands the line of the others. `turn` of
 -- Spelling.antt adds a byte; the loop counts down, so i itself is the measure.
-use mathlib.Core.Path.{◌≡◌, refl, subst}
-use Prim.Native.Nat.{suc, ◌-◌, ◌≤◌}
-use native.Mathlib.Omega.{arith}
-use borrow.Author.Rules.{rules}
-use lib.ListN.{length, length-set}
+use mathlib.Core.Path.{◌≡◌}
+use Prim.Native.Nat.{◌≤◌}
+use lib.ListN.{length}
 use Rattle.rules.specs.Frames.{character_of}
 use Rattle.digits.specs.Tables.{Gives}
-use Rattle.digits.proofs.Tables.{gives}
-use Rattle.digits.proofs.Spelling.{Underway, begun, turn}
+use Rattle.digits.proofs.Spelling.{Underway}
 use Rattle.digits.proofs.spell.Given as goal
 
 abbrev pub invariant-loop-i : goal.invariant-loop-i

@@ -1,12 +1,9 @@
 -- `digits::spell_part`, by a loop whose invariant is `PartUnderway`: the room's first i + i characters are the front of the bytes' line, and the rest is as it
 -- was. `part-turn` of Spelling.antt adds a byte.
 use mathlib.Core.Path.{◌≡◌, refl, subst}
-use Prim.Native.Nat.{◌-◌, ◌≤◌}
 use native.Mathlib.Omega.{arith}
-use borrow.Author.Rules.{rules}
 use lib.ListN.{length, length-set}
 use Rattle.rules.specs.Frames.{character_of}
-use Rattle.digits.specs.Tables.{Gives}
 use Rattle.digits.proofs.Tables.{gives}
 use Rattle.digits.proofs.Spelling.{PartUnderway, part-begun, part-turn, part-finished}
 use Rattle.digits.proofs.spell_part.Goals as goal

@@ -1,14 +1,11 @@
 -- `digits::spell_part`, by a loop whose invariant is `PartUnderway`: the room's first i + i characters are the front of the bytes' line, and the rest is as it
 -- was. `part-turn` of Spelling.antt adds a byte.
-use mathlib.Core.Path.{◌≡◌, refl, subst}
+use mathlib.Core.Path.{◌≡◌}
 use Prim.Native.Nat.{◌-◌, ◌≤◌}
-use native.Mathlib.Omega.{arith}
-use borrow.Author.Rules.{rules}
-use lib.ListN.{length, length-set}
+use lib.ListN.{length}
 use Rattle.rules.specs.Frames.{character_of}
 use Rattle.digits.specs.Tables.{Gives}
-use Rattle.digits.proofs.Tables.{gives}
-use Rattle.digits.proofs.Spelling.{PartUnderway, part-begun, part-turn, part-finished}
+use Rattle.digits.proofs.Spelling.{PartUnderway}
 use Rattle.digits.proofs.spell_part.Given as goal
 
 abbrev pub invariant-loop-i : goal.invariant-loop-i

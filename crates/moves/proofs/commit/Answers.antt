@@ -3,7 +3,6 @@
 use mathlib.Core.Path.{◌≡◌, refl, ◌∙◌, ap}
 use Prim.Native.Nat.{ℕ, ◌+◌, ◌≤◌}
 use native.Mathlib.Omega.{arith}
-use borrow.Author.Rules.{rules}
 use lib.IntN.{ℤ, pos, ◌-ℤ◌}
 use Rattle.rules.specs.RoomAndSoundLedger.{M}
 use Rattle.numbers.specs.Amounts.{remainder_of}

@@ -1,5 +1,4 @@
 -- `moves::exposure_of`: the test decides.
-use borrow.Author.Rules.{rules}
 use Rattle.moves.proofs.Cases.{told}
 use Rattle.moves.proofs.exposure_of.Goals as goal
 

@@ -1,7 +1,6 @@
 -- `moves::limit`: a lemma of Cases for each return. The seat keeps its one form, since that says of the limit only what it is (`limit-sound`).
 use mathlib.Core.Path.{◌≡◌}
 use native.Mathlib.Omega.{arith}
-use borrow.Author.Rules.{rules}
 use lib.IntN.{pos}
 use Rattle.numbers.proofs.Amounts.{sign-negative, sign-natural}
 use Rattle.moves.proofs.Cases.{told, natural-small, limit-sound, limit-negative, limit-changes}

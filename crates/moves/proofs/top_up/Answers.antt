@@ -2,7 +2,6 @@
 use mathlib.Core.Path.{◌≡◌, refl}
 use Prim.Native.Nat.{◌+◌, ◌≤◌}
 use native.Mathlib.Omega.{arith}
-use borrow.Author.Rules.{rules}
 use lib.IntN.{pos}
 use Rattle.rules.specs.RoomAndSoundLedger.{M}
 use Rattle.numbers.proofs.Amounts.{above-sum, fits_sum}

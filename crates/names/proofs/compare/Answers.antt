@@ -1,10 +1,9 @@
 -- `names::compare` meets its contract. The invariant: what is left of both decides.
-use Prim.Native.Nat.{◌-◌, ◌≤◌, ◌<◌}
+use Prim.Native.Nat.{◌<◌}
 use mathlib.Core.Path.{◌≡◌, refl, sym, ◌∙◌}
 use native.Mathlib.Omega.{arith}
 use borrow.Author.Rules.{rules}
-use lib.ListN.{length, get_or, drop}
-use Rattle.rules.specs.RoomAndSoundLedger.{order}
+use lib.ListN.{get_or}
 use Rattle.rules.proofs.Names.{lt-compare, compare_self}
 use Rattle.names.proofs.Comparing.{gt-compare, order-at, right-ended, left_ended, both-ended}
 use Rattle.names.proofs.compare.Goals as goal

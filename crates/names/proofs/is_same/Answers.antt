@@ -1,9 +1,8 @@
 -- `names::is_same` meets its contract. The invariant: what stands from i on is the same in both.
-use Prim.Native.Nat.{◌-◌, ◌≤◌}
+use Prim.Native.Nat.{◌-◌}
 use mathlib.Core.Path.{◌≡◌, sym, ap, ◌∙◌}
 use native.Mathlib.Omega.{arith}
-use borrow.Author.Rules.{rules}
-use lib.ListN.{length, get_or, drop, drop_of_length-le}
+use lib.ListN.{length, get_or, drop_of_length-le}
 use Rattle.rules.specs.RoomAndSoundLedger.{same}
 use Rattle.rules.proofs.Names.{same_self, other}
 use Rattle.names.proofs.Comparing.{same-before}

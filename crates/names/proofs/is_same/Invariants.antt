@@ -1,12 +1,7 @@
 -- `names::is_same` meets its contract. The invariant: what stands from i on is the same in both.
-use Prim.Native.Nat.{◌-◌, ◌≤◌}
-use mathlib.Core.Path.{◌≡◌, sym, ap, ◌∙◌}
-use native.Mathlib.Omega.{arith}
-use borrow.Author.Rules.{rules}
-use lib.ListN.{length, get_or, drop, drop_of_length-le}
-use Rattle.rules.specs.RoomAndSoundLedger.{same}
-use Rattle.rules.proofs.Names.{same_self, other}
-use Rattle.names.proofs.Comparing.{same-before}
+use Prim.Native.Nat.{◌≤◌}
+use mathlib.Core.Path.{◌≡◌}
+use lib.ListN.{length, drop}
 use Rattle.names.proofs.is_same.Given as goal
 
 abbrev pub invariant-loop-i : goal.invariant-loop-i

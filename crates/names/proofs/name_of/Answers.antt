@@ -1,8 +1,7 @@
 -- `names::name_of` meets its contract. The invariant: the bytes passed are copied over zeros.
-use Prim.Native.Nat.{ℕ, ◌-◌, ◌≤◌}
+use Prim.Native.Nat.{ℕ}
 use mathlib.Core.Path.{◌≡◌, refl, ap, ◌∙◌}
 use native.Mathlib.Omega.{arith}
-use borrow.Author.Rules.{rules}
 use lib.ListN.{length, get_or, set, replicate, length-set}
 use lib.Seq.{take-length}
 use Rattle.rules.specs.RoomAndSoundLedger.{longest_name}

@@ -1,9 +1,8 @@
 -- `names::precedes` meets its contract: the invariant is that both names agree in the parts passed. The first part that differs decides by the order of its
 -- big-endian number (Words), and where none does, the lengths decide.
 use mathlib.Core.Path.{◌≡◌, refl, sym, ap, ◌∙◌, subst}
-use Prim.Native.Nat.{◌-◌, ◌*◌, ◌≤◌}
+use Prim.Native.Nat.{◌*◌}
 use native.Mathlib.Omega.{arith}
-use borrow.Author.Rules.{rules}
 use lib.ListN.{take}
 use lib.Seq.{take_all}
 use Rattle.rules.specs.RoomAndSoundLedger.{longest_name}

@@ -1,14 +1,8 @@
 -- `names::precedes` meets its contract: the invariant is that both names agree in the parts passed. The first part that differs decides by the order of its
 -- big-endian number (Words), and where none does, the lengths decide.
-use mathlib.Core.Path.{◌≡◌, refl, sym, ap, ◌∙◌, subst}
+use mathlib.Core.Path.{◌≡◌}
 use Prim.Native.Nat.{◌-◌, ◌*◌, ◌≤◌}
-use native.Mathlib.Omega.{arith}
-use borrow.Author.Rules.{rules}
 use lib.ListN.{take}
-use lib.Seq.{take_all}
-use Rattle.rules.specs.RoomAndSoundLedger.{longest_name}
-use Rattle.names.specs.Names.{is_before, spelled}
-use Rattle.names.proofs.Words.{Compared, compared, names-before, not-before, by_lengths}
 use Rattle.names.proofs.precedes.Given as goal
 
 abbrev pub invariant-loop-k : goal.invariant-loop-k

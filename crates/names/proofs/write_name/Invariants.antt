@@ -1,15 +1,9 @@
 -- `names::write_name` meets its contract: the length, then a loop whose invariant is that the bytes passed are pasted behind it.
-use mathlib.Core.Path.{◌≡◌, sym, ap, ◌∙◌}
-use mathlib.Core.List.{List, [], ◌∷◌, append-nil}
-use Prim.Native.Nat.{ℕ, ◌+◌, ◌-◌, ◌≤◌, ◌<◌}
-use native.Mathlib.Nat.{add_comm}
-use native.Mathlib.Numerals.{add-one}
-use native.Mathlib.Omega.{arith}
-use lib.ListN.{length, get_or, take, set, length-set, drop_of_length-le}
-use lib.Seq.{paste, paste-zero, paste-suc, length-take-le}
-use Rattle.rules.specs.SnapshotsMigrationCertificates.{name_bytes}
+use mathlib.Core.Path.{◌≡◌}
+use Prim.Native.Nat.{◌+◌, ◌-◌, ◌≤◌}
+use lib.ListN.{length}
+use lib.Seq.{paste}
 use Rattle.rules.specs.RoomAndSoundLedger.{longest_name}
-use borrow.Author.Rules.{rules}
 use Rattle.names.proofs.write_name.Given as goal
 
 -- under way: the first i bytes of the name stand behind the length

@@ -1,9 +1,7 @@
 -- `numbers::copy` meets its contract. The invariant: the bytes passed are copied over the output.
-use mathlib.Core.Path.{◌≡◌, refl, ap, ◌∙◌}
+use mathlib.Core.Path.{◌≡◌, ap, ◌∙◌}
 use mathlib.Core.List.{◌++◌}
-use Prim.Native.Nat.{◌-◌, ◌≤◌}
 use native.Mathlib.Omega.{arith}
-use borrow.Author.Rules.{rules}
 use lib.ListN.{length, get_or, drop, set, length-set}
 use lib.Seq.{take-length}
 use Rattle.numbers.proofs.Copying.{copied, copied-turn}

@@ -1,7 +1,6 @@
 -- `numbers::plus` meets its contract: the room below M is compared with what is added.
 use mathlib.Core.Path.{sym}
 use native.Mathlib.Omega.{arith}
-use borrow.Author.Rules.{rules}
 use Rattle.rules.specs.RoomAndSoundLedger.{M}
 use Rattle.numbers.proofs.Amounts.{sum-above, sum_fits}
 use Rattle.numbers.proofs.plus.Goals as goal

@@ -1,6 +1,5 @@
 -- `numbers::positive_of` meets its contract: by the amount's sign, and whether it is 0.
 use mathlib.Core.Path.{sym, ◌∙◌}
-use borrow.Author.Rules.{rules}
 use Rattle.numbers.proofs.Amounts.{positive-negative, positive-zero, positive-amount}
 use Rattle.numbers.proofs.positive_of.Goals as goal
 

@@ -1,6 +1,5 @@
 -- `numbers::read1` meets its contract: a byte is a number of one byte: `read_number`, a law over any size.
 use native.Mathlib.Omega.{arith}
-use borrow.Author.Rules.{rules}
 use Rattle.numbers.proofs.Bytes.{all-bytes}
 use Rattle.numbers.proofs.LittleEndian.{read_number}
 use Rattle.numbers.proofs.read1.Goals as goal

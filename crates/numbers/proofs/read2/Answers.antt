@@ -1,6 +1,5 @@
 -- `numbers::read2` meets its contract: the bytes shifted and joined are their number: `read_number`, a law over any size.
 use native.Mathlib.Omega.{arith}
-use borrow.Author.Rules.{rules}
 use Rattle.numbers.proofs.Bytes.{all-bytes}
 use Rattle.numbers.proofs.LittleEndian.{read_number}
 use Rattle.numbers.proofs.read2.Goals as goal

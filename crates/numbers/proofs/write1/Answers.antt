@@ -1,7 +1,6 @@
 -- `numbers::write1` meets its contract: a byte is its own remainder.
 use mathlib.Core.Path.{ap, sym, ◌∙◌}
 use native.Mathlib.Nat.{mod-eq_of_lt}
-use borrow.Author.Rules.{rules}
 use lib.ListN.{set}
 use Rattle.numbers.proofs.LittleEndian.{write-number}
 use Rattle.numbers.proofs.write1.Goals as goal

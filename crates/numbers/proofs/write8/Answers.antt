@@ -1,6 +1,5 @@
 -- `numbers::write8` meets its contract: each byte stored is the remainder of a quotient: `write-number`, a law over any size.
 use native.Mathlib.Omega.{arith}
-use borrow.Author.Rules.{rules}
 use lib.ListN.{length-set}
 use Rattle.numbers.proofs.LittleEndian.{write-number}
 use Rattle.numbers.proofs.write8.Goals as goal

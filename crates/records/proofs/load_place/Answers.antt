@@ -1,6 +1,5 @@
 -- `records::load_place` meets its contract: the part is its row.
 use Rattle.records.proofs.Rows.{span}
-use borrow.Author.Rules.{rules}
 use Rattle.records.proofs.load_place.Goals as goal
 
 pub returns : goal.returns

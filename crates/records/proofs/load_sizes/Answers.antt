@@ -1,5 +1,4 @@
 -- `records::load_sizes` meets its contract: each field is read from its own part.
-use borrow.Author.Rules.{rules}
 use Rattle.records.proofs.load_sizes.Goals as goal
 
 pub returns : goal.returns

@@ -1,11 +1,9 @@
 -- `records::name_bytes` meets its contract: a copy, byte by byte.
 use Prim.Native.Nat.{◌-◌, ◌≤◌}
-use mathlib.Core.Path.{◌≡◌, refl, ap, ◌∙◌}
-use native.Mathlib.Omega.{arith}
-use lib.ListN.{length, get_or, set, length-set}
+use mathlib.Core.Path.{◌≡◌}
+use lib.ListN.{length}
 use Rattle.rules.specs.RoomAndSoundLedger.{longest_name}
-use Rattle.numbers.proofs.Copying.{copied, copied-turn, copied_all}
-use borrow.Author.Rules.{rules}
+use Rattle.numbers.proofs.Copying.{copied}
 use Rattle.records.proofs.name_bytes.Given as goal
 
 abbrev pub invariant-loop-i : goal.invariant-loop-i

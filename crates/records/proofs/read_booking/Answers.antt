@@ -1,5 +1,4 @@
 -- `records::read_booking` meets its contract: each field is read from its own part.
-use borrow.Author.Rules.{rules}
 use Rattle.records.specs.Records.{booking}
 use Rattle.records.proofs.read_booking.Goals as goal
 

@@ -1,5 +1,4 @@
 -- `records::read_place` meets its contract: each field is read from its own part, whose length the making of it gives.
-use borrow.Author.Rules.{rules}
 use Rattle.records.proofs.read_place.Goals as goal
 
 pub returns : goal.returns

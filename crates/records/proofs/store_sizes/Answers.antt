@@ -15,6 +15,9 @@ returns c =
     let room = c.args.room.now in
     let z = c.args.sizes in
     let names : _ ≡ little_bytes 8 z.names = c.write8.ensures in
-    let reservations : _ ≡ little_bytes 8 z.reservations = c.write8-2.ensures in record { stored = c.store_counts.ensures.stored
+    let reservations : _ ≡ little_bytes 8 z.reservations = c.write8-2.ensures in record {
+      stored = c.store_counts.ensures.stored
           ∙ (λ j. put counts_offset pair_size (put reservations_offset 8 (put capacity_offset 8 room (names j)) (reservations j)) (pair_bytes z.used z.live))
-          ∙ ap (λ ys. put counts_offset pair_size ys (pair_bytes z.used z.live)) (fields-written capacity_offset pair_widths (z.names ∷ z.reservations ∷ []) room refl (omega (arith, c.requires))); fits = search rules }
+          ∙ ap (λ ys. put counts_offset pair_size ys (pair_bytes z.used z.live)) (fields-written capacity_offset pair_widths (z.names ∷ z.reservations ∷ []) room refl (omega (arith, c.requires)));
+      fits = search rules;
+    }

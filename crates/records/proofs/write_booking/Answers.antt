@@ -7,7 +7,6 @@ use Rattle.records.specs.Rows.{put}
 use Rattle.records.specs.Records.{booking_numbers, booking_bytes}
 use Rattle.records.proofs.Rows.{put_all}
 use Rattle.records.proofs.Fields.{fields-written}
-use borrow.Author.Rules.{rules}
 use Rattle.records.proofs.write_booking.Goals as goal
 
 pub returns : goal.returns

@@ -1,10 +1,8 @@
 -- `records::write_name_bytes` meets its contract: a copy, byte by byte.
-use Prim.Native.Nat.{◌-◌, ◌≤◌}
-use mathlib.Core.Path.{◌≡◌, refl, ap, ◌∙◌}
+use mathlib.Core.Path.{refl, ap, ◌∙◌}
 use native.Mathlib.Omega.{arith}
-use lib.ListN.{length, get_or, set, length-set}
-use Rattle.rules.specs.RoomAndSoundLedger.{longest_name}
-use Rattle.numbers.proofs.Copying.{copied, copied-turn, copied_all}
+use lib.ListN.{get_or, set, length-set}
+use Rattle.numbers.proofs.Copying.{copied-turn, copied_all}
 use borrow.Author.Rules.{rules}
 use Rattle.records.proofs.write_name_bytes.Goals as goal
 

@@ -8,7 +8,6 @@ use Rattle.records.specs.Rows.{put, field_bytes}
 use Rattle.records.specs.Records.{place_numbers, place_bytes}
 use Rattle.records.proofs.Rows.{put_next, put_all}
 use Rattle.records.proofs.Fields.{fields-length, fields-written}
-use borrow.Author.Rules.{rules}
 use Rattle.records.proofs.write_place.Goals as goal
 
 pub returns : goal.returns

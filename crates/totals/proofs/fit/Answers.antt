@@ -2,7 +2,6 @@
 use mathlib.Core.Path.{◌≡◌, sym, ◌∙◌, ap}
 use Prim.Native.Nat.{ℕ, ◌-◌, ◌^◌, ◌<◌}
 use native.Mathlib.Omega.{arith}
-use borrow.Author.Rules.{rules}
 use mir.Syntax.{w64}
 use mir.Val.{of_z, to_z}
 use mir.Facts.{to_z_pos}

@@ -2,7 +2,6 @@
 use mathlib.Core.Path.{◌≡◌, sym, ◌∙◌, ap, subst}
 use Prim.Native.Nat.{◌-◌, ◌^◌, ◌<◌}
 use native.Mathlib.Omega.{arith}
-use borrow.Author.Rules.{rules}
 use lib.IntN.{ℤ, pos, negsuc, neg_ℤ, ◌+ℤ◌, ◌-ℤ◌, +ℤ_assoc, +ℤ_idl}
 use lib.Signed.{mag}
 use mir.Syntax.{w64}
