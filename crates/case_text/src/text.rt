@@ -35,16 +35,31 @@ pub struct Pair {
     pub last: usize,
 }
 
+// Where a byte first stands in a part of a list, or the part's end where it does not.
+pub fn find(list: &[u8], from: usize, end: usize, byte: u8) -> usize
+    requires { (from ≤ end) × (end ≤ length list.now) }
+    ensures { (from ≤ result) × (result ≤ end) }
+{
+    let mut at = from;
+    while at < end {
+        if list[at] == byte {
+            return at;
+        }
+        at += 1;
+    }
+    end
+}
+
 // Which word of a list this is: 0 is the first.
 pub fn place(word: &[u8], list: &[u8]) -> u64 {
     let mut place = 0;
     let mut at = 0;
     while at < list.len() {
-        let end = bytes::scan::find(list, at, list.len(), b' ');
-        if check::same(word, &list[at..end]) {
+        let end = find(list, at, list.len(), b' ');
+        if word == &list[at..end] {
             return place;
         }
-        place = std::num::wrapping_add_u64(place, 1);
+        place = place.wrapping_add(1);
         at = end + 1;
     }
     NOWHERE
@@ -95,7 +110,7 @@ fn read_amount(word: &[u8]) -> Number {
         let size = read_number(&word[1..]);
         return Number {
             given: size.given && size.value <= LARGEST_NEGATIVE,
-            value: std::num::wrapping_sub_u64(0, size.value),
+            value: 0u64.wrapping_sub(size.value),
         };
     }
     let size = read_number(word);

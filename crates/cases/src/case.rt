@@ -20,75 +20,88 @@ fn least(a: usize, b: usize) -> usize
 }
 
 // The input comes in pieces of this size; what a batch does not use comes again with the next piece.
-fn in_pieces(memory: &mut [u8], input: &[u8], output: &mut [u8], size: usize) -> Progress
+fn in_pieces(
+    rt: &HostRuntime,
+    memory: &mut [u8],
+    input: &[u8],
+    output: &mut [u8],
+    size: usize,
+) -> Progress
     requires { 0 < size }
 {
     let mut used = 0;
-    let mut written = 0;
+    let mut written: usize = 0;
     let mut end = 0;
     while end < input.len() {
         end += least(size, input.len() - end);
         let progress = lines::batch(memory, &input[used..end], output);
         let size = progress.written;
-        shown::text(&output[0..size]);
+        shown::text(rt, &output[0..size]);
         used += progress.used;
-        written = std::num::wrapping_add_usize(written, size);
+        written = written.wrapping_add(size);
     }
     Progress { used, written }
 }
 
-fn batch(line: &[u8], size: u64, memory: &mut [u8], supplied: &[u8], output: &mut [u8]) -> bool {
+fn batch(
+    rt: &HostRuntime,
+    line: &[u8],
+    size: u64,
+    memory: &mut [u8],
+    supplied: &[u8],
+    output: &mut [u8],
+) -> bool {
     if size < 1 {
         return false;
     }
-    shown::text(line);
-    shown::text(b":\n");
-    let progress = in_pieces(memory, supplied, output, size as usize);
-    shown::natural(progress.used as u64);
-    shown::text(b" used, ");
-    shown::natural(progress.written as u64);
-    shown::text(b" written\n");
+    shown::text(rt, line);
+    shown::text(rt, b":\n");
+    let progress = in_pieces(rt, memory, supplied, output, size as usize);
+    shown::natural(rt, progress.used as u64);
+    shown::text(rt, b" used, ");
+    shown::natural(rt, progress.written as u64);
+    shown::text(rt, b" written\n");
     true
 }
 
-fn snapshot_size(size: usize) {
-    shown::natural(size as u64);
-    shown::text(b" bytes\n");
+fn snapshot_size(rt: &HostRuntime, size: usize) {
+    shown::natural(rt, size as u64);
+    shown::text(rt, b" bytes\n");
 }
 
-fn snapshot_refused(number: u8) {
-    shown::byte(number);
-    shown::text(b"\n");
+fn snapshot_refused(rt: &HostRuntime, number: u8) {
+    shown::byte(rt, number);
+    shown::text(rt, b"\n");
 }
 
-fn snapshot(line: &[u8], memory: &mut [u8], output: &mut [u8]) -> bool {
-    shown::echo(line);
+fn snapshot(rt: &HostRuntime, line: &[u8], memory: &mut [u8], output: &mut [u8]) -> bool {
+    shown::echo(rt, line);
     match any_memory_snapshots::snapshot(memory, output) {
-        Snapshotted::Written(size) => snapshot_size(size),
-        Snapshotted::AllocatorExhausted => snapshot_refused(9),
-        Snapshotted::OutputTooShort => snapshot_refused(22),
-        Snapshotted::UnsoundLedger => snapshot_refused(24),
+        Snapshotted::Written(size) => snapshot_size(rt, size),
+        Snapshotted::AllocatorExhausted => snapshot_refused(rt, 9),
+        Snapshotted::OutputTooShort => snapshot_refused(rt, 22),
+        Snapshotted::UnsoundLedger => snapshot_refused(rt, 24),
     }
     true
 }
 
-fn version(number: u64) {
-    shown::text(b"0 ");
-    shown::natural(number);
-    shown::text(b"\n");
+fn version(rt: &HostRuntime, number: u64) {
+    shown::text(rt, b"0 ");
+    shown::natural(rt, number);
+    shown::text(rt, b"\n");
 }
 
 // A version has 64 bits and no sign.
-fn last_version(line: &[u8], memory: &[u8]) -> bool {
-    shown::echo(line);
+fn last_version(rt: &HostRuntime, line: &[u8], memory: &[u8]) -> bool {
+    shown::echo(rt, line);
     match any_memory_accounts::last_version(memory) {
-        Versioned::Version(number) => version(number),
-        Versioned::UnsoundLedger => shown::text(b"24\n"),
+        Versioned::Version(number) => version(rt, number),
+        Versioned::UnsoundLedger => shown::text(rt, b"24\n"),
     }
     true
 }
 
-fn show(line: &[u8], numbers: Numbers, room: &[u8]) -> bool {
+fn show(rt: &HostRuntime, line: &[u8], numbers: Numbers, room: &[u8]) -> bool {
     let from = numbers.first as usize;
     let end = numbers.second as usize;
     if room.len() < end {
@@ -97,20 +110,21 @@ fn show(line: &[u8], numbers: Numbers, room: &[u8]) -> bool {
     if end < from {
         return false;
     }
-    shown::echo(line);
-    shown::bytes(&room[from..end]);
-    shown::text(b"\n");
+    shown::echo(rt, line);
+    shown::bytes(rt, &room[from..end]);
+    shown::text(rt, b"\n");
     true
 }
 
-fn heading(line: &[u8]) -> bool {
-    shown::text(line);
-    shown::text(b"\n");
+fn heading(rt: &HostRuntime, line: &[u8]) -> bool {
+    shown::text(rt, line);
+    shown::text(rt, b"\n");
     true
 }
 
 // The operations that show something else than an answer's bytes.
 fn shown_apart(
+    rt: &HostRuntime,
     line: &[u8],
     operation: &[u8],
     numbers: Numbers,
@@ -120,20 +134,21 @@ fn shown_apart(
 ) -> bool {
     let place = text::place(
         operation,
-        b"-- last_version snapshot batch show-memory show-output",
+        b"-- last-version snapshot batch show-memory show-output",
     );
     match place {
-        0 => heading(line),
-        1 => last_version(line, memory),
-        2 => snapshot(line, memory, output),
-        3 => batch(line, numbers.second, memory, supplied, output),
-        4 => show(line, numbers, memory),
-        5 => show(line, numbers, output),
+        0 => heading(rt, line),
+        1 => last_version(rt, line, memory),
+        2 => snapshot(rt, line, memory, output),
+        3 => batch(rt, line, numbers.second, memory, supplied, output),
+        4 => show(rt, line, numbers, memory),
+        5 => show(rt, line, numbers, output),
         _ => false,
     }
 }
 
 fn account_answered(
+    rt: &HostRuntime,
     line: &[u8],
     operation: &[u8],
     rest: &[u8],
@@ -145,14 +160,15 @@ fn account_answered(
     let last = pair.last;
     let mut answer = [0u8; LONGEST_OTHER_ANSWER];
     let size = case_calls::change(operation, &rest[0..end], numbers, memory, &mut answer);
-    if shown::answered(line, &answer, size, true) {
+    if shown::answered(rt, line, &answer, size, true) {
         return true;
     }
     let size = case_calls::read(operation, &rest[last..], memory, &mut answer);
-    shown::answered(line, &answer, size, true)
+    shown::answered(rt, line, &answer, size, true)
 }
 
 fn snapshot_answered(
+    rt: &HostRuntime,
     line: &[u8],
     operation: &[u8],
     numbers: Numbers,
@@ -162,10 +178,11 @@ fn snapshot_answered(
 ) -> bool {
     let mut answer = [0u8; LONGEST_OTHER_ANSWER];
     let size = case_calls::judge(operation, numbers, memory, supplied, output, &mut answer);
-    shown::answered(line, &answer, size, false)
+    shown::answered(rt, line, &answer, size, false)
 }
 
 fn answered(
+    rt: &HostRuntime,
     line: &[u8],
     operation: &[u8],
     rest: &[u8],
@@ -174,24 +191,25 @@ fn answered(
     supplied: &[u8],
     output: &mut [u8],
 ) -> bool {
-    if account_answered(line, operation, rest, numbers, memory) {
+    if account_answered(rt, line, operation, rest, numbers, memory) {
         return true;
     }
-    if snapshot_answered(line, operation, numbers, memory, supplied, output) {
+    if snapshot_answered(rt, line, operation, numbers, memory, supplied, output) {
         return true;
     }
-    shown_apart(line, operation, numbers, memory, supplied, output)
+    shown_apart(rt, line, operation, numbers, memory, supplied, output)
 }
 
-fn refused(line: &[u8], lent: Lent) -> Lent {
-    shown::text(b"?? ");
-    shown::text(line);
-    shown::text(b"\n");
+fn refused(rt: &HostRuntime, line: &[u8], lent: Lent) -> Lent {
+    shown::text(rt, b"?? ");
+    shown::text(rt, line);
+    shown::text(rt, b"\n");
     lent
 }
 
 // So much of each array is lent as the lines before said.
 fn lent_answered(
+    rt: &HostRuntime,
     line: &[u8],
     operation: &[u8],
     rest: &[u8],
@@ -205,6 +223,7 @@ fn lent_answered(
     let supplied_end = least(lent.supplied, supplied.len());
     let output_end = least(lent.output, output.len());
     answered(
+        rt,
         line,
         operation,
         rest,
@@ -216,6 +235,7 @@ fn lent_answered(
 }
 
 fn case(
+    rt: &HostRuntime,
     line: &[u8],
     operation: &[u8],
     rest: &[u8],
@@ -229,21 +249,27 @@ fn case(
     let last = pair.last;
     let numbers = text::read_numbers(&rest[0..end], &rest[last..]);
     if !text::fits(operation, numbers) {
-        return refused(line, lent);
+        return refused(rt, line, lent);
     }
     let next = lent::set(operation, rest, numbers, memory, supplied, output, lent);
     if next.silent {
         return next;
     }
     if lent_answered(
-        line, operation, rest, numbers, memory, supplied, output, next,
+        rt, line, operation, rest, numbers, memory, supplied, output, next,
     ) {
         return next;
     }
-    refused(line, next)
+    refused(rt, line, next)
 }
 
-pub fn each(input: &[u8], memory: &mut [u8], supplied: &mut [u8], output: &mut [u8]) {
+pub fn each(
+    rt: &HostRuntime,
+    input: &[u8],
+    memory: &mut [u8],
+    supplied: &mut [u8],
+    output: &mut [u8],
+) {
     let mut lent = Lent {
         memory: 0,
         supplied: 0,
@@ -252,10 +278,11 @@ pub fn each(input: &[u8], memory: &mut [u8], supplied: &mut [u8], output: &mut [
     };
     let mut at = 0;
     while at < input.len() {
-        let end = bytes::scan::find(input, at, input.len(), b'\n');
-        let space = bytes::scan::find(input, at, end, b' ');
+        let end = text::find(input, at, input.len(), b'\n');
+        let space = text::find(input, at, end, b' ');
         let rest = least(space + 1, end);
         lent = case(
+            rt,
             &input[at..end],
             &input[at..space],
             &input[rest..end],

@@ -88,7 +88,7 @@ fn add_line(supplied: &mut [u8], line: &[u8], lent: Lent) -> Lent {
         return lent;
     }
     let end = from + line.len();
-    bytes::copy(line, &mut supplied[from..end]);
+    numbers::copy(line, &mut supplied[from..end]);
     supplied[end] = b'\n';
     let mut next = lent;
     next.supplied = end + 1;

@@ -17,7 +17,7 @@
 //   make NAMES RESERVATIONS
 //   ensure NAME AMOUNT, top-up NAME AMOUNT, limit NAME AMOUNT, reserve NAME COST, commit ID ACTUAL, release ID
 //   remaining NAME, initial NAME, committed NAME, reserved NAME
-//   committed-total, accounts, live, last_version, committed-since
+//   committed-total, accounts, live, last-version, committed-since
 //
 // These in hexadecimal, as an answer line has it, but for the size of a snapshot that was taken:
 //
@@ -35,6 +35,8 @@
 mod case;
 mod lent;
 
+ghost use Rattle.std.specs.Prelude.{◌≤◌, length};
+
 use records::LARGEST_ROOM;
 
 // The most that the lines may lend: the largest room as memory, and output for any one answer line.
@@ -44,16 +46,35 @@ const OUTPUT_SIZE: usize = 30000;
 const INPUT_SIZE: usize = 65536;
 
 use case_text::shown;
+use std::io::Read;
 
-fn main() {
+// All of the input, or as much of it as there is room for; a read that fails ends it.
+fn read_full(rt: &HostRuntime, input: &mut [u8]) -> usize
+    ensures { result ≤ length input.new }
+{
+    let mut size = 0;
+    while size < input.len() {
+        let count = match rt.stdin().read(&mut input[size..]) {
+            Ok(count) => count,
+            Err(_) => 0,
+        };
+        if count == 0 {
+            return size;
+        }
+        size += count;
+    }
+    size
+}
+
+fn main(rt: HostRuntime) {
     let mut input = [0u8; INPUT_SIZE];
     let mut memory = [0u8; LARGEST_ROOM];
     let mut supplied = [0u8; INPUT_SIZE];
     let mut output = [0u8; OUTPUT_SIZE];
-    let size = io::read_full(0, &mut input);
+    let size = read_full(&rt, &mut input);
     if size == INPUT_SIZE {
-        shown::text(b"?? more cases than fit\n");
+        shown::text(&rt, b"?? more cases than fit\n");
         return;
     }
-    case::each(&input[..size], &mut memory, &mut supplied, &mut output);
+    case::each(&rt, &input[..size], &mut memory, &mut supplied, &mut output);
 }

@@ -1,4 +1,5 @@
--- What the walks by hand of `draw`, `rotate`, `after_draw` and `after_rotation` share.
+-- Steps for a walk by hand of code that changes a head in place. The check proves `draw`, `rotate`, `after_draw` and `after_rotation` itself: nothing cites
+-- these steps now.
 --     machine, Fits, fits, made      a head's machine value, and what is known of its numbers
 --     opens-head, closes-head        the head behind a `&mut`: its cell is taken out of the borrow, and put back with another head in it
 --     asks, leaves                   what a function of plain parameters asks and leaves
@@ -10,8 +11,8 @@ use mathlib.Core.Path.{refl}
 use Prim.Native.Nat.{ℕ, ◌<◌, ◌^◌}
 use mathlib.Core.List.{List, [], ◌∷◌}
 use seplogic.Ra.Ura.{Ura}
-use seplogic.Ra.TreeShare.{full_share}
-use mir.Syntax.{Name, Place, Opd as Operand, Body as Code, seq, call, named, w64}
+use base.Fraction.{full_share}
+use mir.Syntax.{Callee, Place, Opd as Operand, Body as Code, seq, call, named, w64}
 use lib.Dec.{T as Holds}
 use mir.Val.{Val, WT, has_ty, vint, vptr, vstruct, vnil, vcons}
 use base.Logic.{ent, sep, emp}
@@ -30,7 +31,7 @@ use sound.WpLaws.{FmC}
 use denote.RattleType.{RattleType, Denots, Valss, owns}
 use denote.Laws.{Is, shows}
 use denote.Memory.{mem, cell_at, part_at, part_of}
-use denote.Plain.{uint_makes}
+use denote.Plain.{uint_Makes}
 use denote.Builtin.{u64}
 use denote.Ref.{MutBor, MutRef}
 use denote.Lend.{lends_ref, ref_back}
@@ -74,7 +75,7 @@ Behind b o γ = Body (mem T.the_row) b o γ
 
 -- what a `&mut` to a head owns
 abbrev pub Lent : Lft → MutBor Head → Fml
-Lent κ x = (MutRef (named 0) κ T.the_row).own_val x (vptr x.ptr.0 x.ptr.1 ∷ [])
+Lent κ x = (MutRef (named 0) κ T.the_row).own_val x (vptr x.ref_ptr.0 x.ref_ptr.1 ∷ [])
 
 -- the reference to a head in a local
 abbrev pub to-local : ℕ → GName → Head → MutBor Head
@@ -89,13 +90,13 @@ module _ {M : Type 1} {𝓤 : Ura M} (𝓛 : Logic 𝓤) where
   lent κ b o γ h rs xs vss = owns (MutRef (named 0) κ T.the_row ∷ rs) (record { ref_ptr = (b, o); ghost_name = γ; now = h }, xs) (vptr b o ∷ [], vss)
 
   pub one_number : (n : ℕ) → n < 2 ^ 64 → ent 𝓤 (emp 𝓤) (sem 𝓛 (owns (u64 ∷ []) (n, tt) (vint w64 n ∷ [], tt)))
-  one_number n f = qed 𝓛 [] ∵ nothing ! $ owned ! u64 (Is u64) (uint_makes 𝓛 w64) n _ (refl, f) $ fjoin ! $ done !
+  one_number n f = qed 𝓛 [] ∵ nothing ! $ owned ! u64 (Is u64) (uint_Makes 𝓛 w64) n _ (refl, f) $ fjoin ! $ done !
 
   pub two-numbers : (m n : ℕ) → m < 2 ^ 64 → n < 2 ^ 64
       → ent 𝓤 (emp 𝓤) (sem 𝓛 (owns (u64 ∷ u64 ∷ []) (m, (n, tt)) (vint w64 m ∷ [], (vint w64 n ∷ [], tt))))
   two-numbers m n e f =
       qed 𝓛 [] ∵ use0 𝓛 (‵ (owns (u64 ∷ []) (n, tt) (vint w64 n ∷ [], tt))) (one_number n f) $
-      owned ! u64 (Is u64) (uint_makes 𝓛 w64) m _ (refl, e) $ fjoin ! $ done !
+      owned ! u64 (Is u64) (uint_Makes 𝓛 w64) m _ (refl, e) $ fjoin ! $ done !
 
   pub head-and : (h : Head) → IsHead h → (rs : List RattleType) (xs : Denots rs) (vss : Valss rs) → ent 𝓤 (emp 𝓤) (sem 𝓛 (owns rs xs vss))
       → ent 𝓤 (emp 𝓤) (sem 𝓛 (owns (T.the_row ∷ rs) (h, xs) (machine h ∷ [], vss)))
@@ -188,7 +189,7 @@ module _ {M : Type 1} {𝓤 : Ura M} {𝓛 : Logic 𝓤} {K : Type 0} {Γ : List
         move t (1 ∷ []) $ facts t T.the_row (Is T.the_row) (shows 𝓛 T.the_row) h (machine h ∷ []) (λ is.
         use1 𝓛 (‵ (fat full_share T'.mir l 0 (machine h))) (𝓛.laws.raw_at full_share T'.mir l 0 (machine h)) $ k is))
 
-  module _ {E : Env 𝓤 H} {C : Calls 𝓤 H} {Λ : Loops 𝓤 H} {f : Name} {xs : List Operand} {d : Place} {rest : Code} {q : Post 𝓤 H} where
+  module _ {E : Env 𝓤 H} {C : Calls 𝓤 H} {Λ : Loops 𝓤 H} {f : Callee} {xs : List Operand} {d : Place} {rest : Code} {q : Post 𝓤 H} where
     -- ── a call on numbers ──────────────────────────────────────────────────────────────────────
 
     pub calls-covered : K → FmC 𝓤 H 𝓛.laws C → (c : Contract 𝓤) → Triple 𝓤 (C f) c → (x : c.Ghost) → ent 𝓤 (emp 𝓤) (c.pre x)

@@ -3,6 +3,7 @@ ghost use Rattle.std.specs.Prelude.{◌≤◌, ◌<◌, length};
 ghost use Rattle.turns.specs.Turns.{Within, longest_answer_line};
 ghost use Rattle.house.specs.Desk.{ReadyToRead};
 
+use std::io::{Read, Write};
 use turns::{Held, Turn};
 
 #[derive(Clone, Copy)]
@@ -18,17 +19,33 @@ fn stopped() -> Desk
     Desk { held, going: false }
 }
 
-// Whether the answers were written: a failed write ends the program, and says so.
-fn written(answers: &[u8]) -> bool {
-    if io::write_all(1, answers) {
-        return true;
+// A failed read or write ends the program, which says so.
+fn complain(rt: &HostRuntime, words: &[u8]) {
+    match rt.stderr().write_all(words) {
+        Ok(()) => (),
+        Err(_) => (),
     }
-    io::write_all(2, b"house: the answers cannot be written\n");
-    false
+}
+
+// Whether the answers were written.
+fn written(rt: &HostRuntime, answers: &[u8]) -> bool {
+    match rt.stdout().write_all(answers) {
+        Ok(()) => true,
+        Err(_) => {
+            complain(rt, b"house: the answers cannot be written\n");
+            false
+        }
+    }
 }
 
 // All that was read is answered, and the answers are written as they come.
-fn answer(room: &mut [u8], input: &mut [u8], output: &mut [u8], held: Held) -> Desk
+fn answer(
+    rt: &HostRuntime,
+    room: &mut [u8],
+    input: &mut [u8],
+    output: &mut [u8],
+    held: Held,
+) -> Desk
     requires { Within input.old held × (0 < length input.old) × (longest_answer_line ≤ length output.old) }
     ensures { ReadyToRead (length input.old) result.held }
 {
@@ -41,7 +58,7 @@ fn answer(room: &mut [u8], input: &mut [u8], output: &mut [u8], held: Held) -> D
         let held = turn.held;
         turn = turns::answer(room, input, held, output);
         let size = turn.written;
-        if !written(&output[..size]) {
+        if !written(rt, &output[..size]) {
             return stopped();
         }
     }
@@ -50,37 +67,43 @@ fn answer(room: &mut [u8], input: &mut [u8], output: &mut [u8], held: Held) -> D
 }
 
 // The end of the input: what it ends with, when it ends in no line feed.
-fn close(room: &mut [u8], input: &[u8], output: &mut [u8], held: Held) -> Desk
+fn close(rt: &HostRuntime, room: &mut [u8], input: &[u8], output: &mut [u8], held: Held) -> Desk
     requires { Within input.now held × (longest_answer_line ≤ length output.old) }
     ensures { ReadyToRead 1 result.held }
 {
     let size = turns::last(room, input, held, output);
-    written(&output[..size]);
+    written(rt, &output[..size]);
     stopped()
 }
 
 // One read, and the answers to every whole line that it brought. A read that fails ends no input: what is held may be the beginning of a line, and is not
 // answered.
-fn turn(room: &mut [u8], input: &mut [u8], output: &mut [u8], held: Held) -> Desk
+fn turn(
+    rt: &HostRuntime,
+    room: &mut [u8],
+    input: &mut [u8],
+    output: &mut [u8],
+    held: Held,
+) -> Desk
     requires { ReadyToRead (length input.old) held × (longest_answer_line ≤ length output.old) }
     ensures { ReadyToRead (length input.old) result.held }
 {
     let end = held.end;
-    let got = libc::read(0, &mut input[end..]);
-    if got < 0 {
-        io::write_all(2, b"house: the input cannot be read\n");
-        return stopped();
+    match rt.stdin().read(&mut input[end..]) {
+        Err(_) => {
+            complain(rt, b"house: the input cannot be read\n");
+            stopped()
+        }
+        Ok(0) => close(rt, room, input, output, held),
+        Ok(count) => {
+            let held = turns::brought(input, held, count);
+            answer(rt, room, input, output, held)
+        }
     }
-    let count = io::count(got, &input[end..]);
-    if count == 0 {
-        return close(room, input, output, held);
-    }
-    let held = turns::brought(input, held, count);
-    answer(room, input, output, held)
 }
 
 // A proved loop has to end, and nothing says that the input does: the turns are counted down from a number that no run uses up.
-pub fn open(room: &mut [u8], input: &mut [u8], output: &mut [u8])
+pub fn open(rt: &HostRuntime, room: &mut [u8], input: &mut [u8], output: &mut [u8])
     requires { (0 < length input.old) × (longest_answer_line ≤ length output.old) }
 {
     let held = turns::start();
@@ -88,7 +111,7 @@ pub fn open(room: &mut [u8], input: &mut [u8], output: &mut [u8])
     let mut turns: u64 = 18446744073709551615;
     while 0 < turns && desk.going {
         let held = desk.held;
-        desk = turn(room, input, output, held);
+        desk = turn(rt, room, input, output, held);
         turns -= 1;
     }
 }

@@ -16,10 +16,10 @@ const READ_SIZE: usize = 65536;
 
 const WRITE_SIZE: usize = 65536;
 
-fn main() {
+fn main(rt: HostRuntime) {
     let mut room = [0u8; LARGEST_ROOM];
     let mut input = [0u8; READ_SIZE];
     let mut output = [0u8; WRITE_SIZE];
     soundness::make(&mut room, MOST_NAMES, MOST_RESERVATIONS);
-    desk::open(&mut room, &mut input, &mut output);
+    desk::open(&rt, &mut room, &mut input, &mut output);
 }

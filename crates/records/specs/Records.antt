@@ -1,4 +1,4 @@
--- The records of a room: each as it is read from its bytes, as its bytes, and what fits them. specs/layout.antt says where each field stands.
+-- The records of a room: each as it is read from its bytes, as its bytes, and what fits them. specs/Layout.antt says where each field stands.
 use Rattle.std.specs.Prelude.{◌≡◌, List, [], ◌∷◌, ◌++◌, ℕ, ◌^◌, ◌<◌, length}
 use Rattle.rules.specs.RoomAndSoundLedger.{longest_name}
 use Rattle.numbers.specs.LittleEndian.{little_number}

@@ -1,4 +1,4 @@
--- What the check asks of a room, record by record. That these are just the rooms of sound ledgers is a theorem (proofs/sound.antt).
+-- What the check asks of a room, record by record. That these are just the rooms of sound ledgers is a theorem (proofs/Sound.antt).
 use Rattle.std.specs.Prelude.{◌≡◌, ◌⊎◌, ◌≢◌, Bool, true, false, cond, List, ℕ, ◌-◌, ◌≤◌, ◌<◌, eqb, length, get_or, drop, replicate}
 use Rattle.rules.specs.Lists.{sum, All, Pairwise}
 use Rattle.rules.specs.RoomAndSoundLedger.{M, is_vacant, InRange, has_tag, fence_of, most_names, most_reservations}

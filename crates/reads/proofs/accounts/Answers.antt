@@ -1,6 +1,5 @@
 -- `reads::accounts` meets its contract. The invariant: the count is the number of accounts among the places passed.
 use mathlib.Core.Path.{◌≡◌, sym, ap}
-use mathlib.Core.Logic.{⊎_elim}
 use Prim.Native.Nat.{◌+◌, ◌-◌, ◌≤◌}
 use native.Mathlib.Omega.{arith}
 use borrow.Author.Rules.{rules}
@@ -12,15 +11,13 @@ use Rattle.reads.proofs.Totals.{counted, counted-one, counted_none, counted-most
 use Rattle.reads.proofs.accounts.Lts as place
 use Rattle.reads.proofs.accounts.Tie as tie
 use Rattle.reads.proofs.accounts.Goals as goal
+use Rattle.reads.proofs.accounts.Goals.{then-place-ne0, else-place-ne0}
 
 abbrev Start : Type 0
 Start = place.Start tie.the-claims tie.handed_pre tie.handed_post goal.the-invariant-loop-at goal.the-decreases-loop-at
 
 abbrev After-load_sizes-sizes : Type 0
 After-load_sizes-sizes = place.After-load_sizes tie.the-claims tie.handed_pre tie.handed_post goal.the-invariant-loop-at goal.the-decreases-loop-at
-
-abbrev Joined-place-ne0 : Type 0
-Joined-place-ne0 = place.Joined1 tie.the-claims tie.handed_pre tie.handed_post goal.the-invariant-loop-at goal.the-decreases-loop-at
 
 in_use : (c : After-load_sizes-sizes) → c.load_sizes-sizes.result.used ≡ (sizes_of c.args.room.now).used
 in_use c = ap (λ s. s.used) c.load_sizes-sizes.ensures
@@ -41,15 +38,18 @@ pub overflow_add-count : goal.overflow_add-count
 overflow_add-count c = search rules
 
 -- the count after a turn
-more : (c : Joined-place-ne0) → c.if-place-ne0.count ≡ c.loop-at.count + counted c.load_place-place.result
+more : (c : goal.Joined-place-ne0) → c.if-place-ne0.count ≡ c.loop-at.count + counted c.load_place-place.result
 more c =
     let p = c.load_place-place.result in
-    ⊎_elim (λ w. omega (arith, w.1, counted-one p w.0.taken)) (λ w. omega (arith, w.1, counted_none p w.0.left)) c.if-place-ne0.branch
+    elim c.if-place-ne0.branch [
+      | then-place-ne0 w ↦ omega (arith, w.count-is, counted-one p w.if-place-ne0.true)
+      | else-place-ne0 w ↦ omega (arith, w.count-is, counted_none p w.if-place-ne0.false)
+    ]
 
 pub loop-at-preserved : goal.loop-at-preserved
 loop-at-preserved c =
     let next = sum-next counted c.args.room.now (size c.before.before.before.before.before.before.before.before) c.loop-at.at (omega (arith, in_use c.before.before.before.before.before.before, c.loop-at-test.true)) in
-    (omega (arith, c.loop-at-test.true), omega (arith, more c.before, c.loop-at.invariant.1, ap counted c.load_place-place.ensures, next), omega (arith, more c.before, c.loop-at.invariant.2, counted-most c.load_place-place.result))
+    (omega (arith, c.loop-at-test.true), omega (arith, more c, c.loop-at.invariant.1, ap counted c.load_place-place.ensures, next), omega (arith, more c, c.loop-at.invariant.2, counted-most c.load_place-place.result))
 
 pub returns : goal.returns
 returns c L room =

@@ -28,34 +28,34 @@ use Rattle.reservations.proofs.commit.Tie as tie
 use Rattle.reservations.proofs.commit.Goals as goal
 
 abbrev Start : Type 0
-Start = place.Start tie.the-claims tie.handed_pre tie.handed_post
+Start = place.Start tie.the-claims tie.handed_pre tie.handed_post tie.handed_clauses
 
 abbrev After-sign_of : Type 0
-After-sign_of = place.After-sign_of tie.the-claims tie.handed_pre tie.handed_post
+After-sign_of = place.After-sign_of tie.the-claims tie.handed_pre tie.handed_post tie.handed_clauses
 
 abbrev In-Natural : Type 0
-In-Natural = place.Past-After-known_told tie.the-claims tie.handed_pre tie.handed_post
+In-Natural = place.Past-After-known_told tie.the-claims tie.handed_pre tie.handed_post tie.handed_clauses
 
 abbrev After-find_booking : Type 0
-After-find_booking = place.After-find_booking tie.the-claims tie.handed_pre tie.handed_post
+After-find_booking = place.After-find_booking tie.the-claims tie.handed_pre tie.handed_post tie.handed_clauses
 
 abbrev In-At : Type 0
-In-At = place.Past-After-known_told2 tie.the-claims tie.handed_pre tie.handed_post
+In-At = place.Past-After-known_told2 tie.the-claims tie.handed_pre tie.handed_post tie.handed_clauses
 
 abbrev After-tenant_of : Type 0
-After-tenant_of = place.After-tenant_of tie.the-claims tie.handed_pre tie.handed_post
+After-tenant_of = place.After-tenant_of tie.the-claims tie.handed_pre tie.handed_post tie.handed_clauses
 
 abbrev In-Present : Type 0
-In-Present = place.Past-After-enum_told3 tie.the-claims tie.handed_pre tie.handed_post
+In-Present = place.Past-After-enum_told3 tie.the-claims tie.handed_pre tie.handed_post tie.handed_clauses
 
 abbrev In_default-plus : Type 0
-In_default-plus = place.Past-After-enum_told5 tie.the-claims tie.handed_pre tie.handed_post
+In_default-plus = place.Past-After-enum_told5 tie.the-claims tie.handed_pre tie.handed_post tie.handed_clauses
 
 abbrev After-commit : Type 0
-After-commit = place.After-commit tie.the-claims tie.handed_pre tie.handed_post
+After-commit = place.After-commit tie.the-claims tie.handed_pre tie.handed_post tie.handed_clauses
 
 abbrev In-Ended : Type 0
-In-Ended = place.Past-After-known_told4 tie.the-claims tie.handed_pre tie.handed_post
+In-Ended = place.Past-After-known_told4 tie.the-claims tie.handed_pre tie.handed_post tie.handed_clauses
 
 -- ── at the entry ───────────────────────────────────────────────────────────────────────────────
 
@@ -124,29 +124,29 @@ found c =
 pub due_at-due-requires : goal.due_at-due-requires
 due_at-due-requires c = (found c).readable
 
-abbrev place : After-tenant_of → In-At
-place c = c.before.before.before.before
+abbrev found_at : After-tenant_of → In-At
+found_at c = c.before.before.before.before
 
 abbrev due : After-tenant_of → Due
 due c = c.due_at-due.result
 
 abbrev begun : After-tenant_of → Start
-begun c = start (place c).before
+begun c = start (found_at c).before
 
-amount-is : (c : After-tenant_of) → actual (begun c) ≡ pos (spent (natural (place c).before))
-amount-is c = actual-is (natural (place c).before)
+amount-is : (c : After-tenant_of) → actual (begun c) ≡ pos (spent (natural (found_at c).before))
+amount-is c = actual-is (natural (found_at c).before)
 
 allowed : (c : After-tenant_of) → SeatSound (due c).seat × ((due c).amount.0 ≤ (due c).seat.reserved)
-allowed c = (found (place c)).allowed (due c) c.due_at-due.ensures
+allowed c = (found (found_at c)).allowed (due c) c.due_at-due.ensures
 
 -- whatever ledger the room holds, it is decided to be this
 abbrev Decides : After-tenant_of → Settlement → Type 0
-Decides c d = let s = begun c in (L : Ledger) → IsRoom (room s) L → Settled L (operation s) (id s) (at (place c)) (due c) d
+Decides c d = let s = begun c in (L : Ledger) → IsRoom (room s) L → Settled L (operation s) (id s) (at (found_at c)) (due c) d
 
 decided : (c : After-tenant_of) (d : Settlement) → d ≡ commit_rule (actual (begun c)) (some (due c).amount.0) (account_of (due c).seat) (due c).seat.limit → Decides c d
 decided c d e L k =
     let s = begun c in
-    settled (room s) L k (operation s) (id s) (commit_rule (actual s)) (settles s L) (at (place c)) ((found (place c)).is_live L k) (due c) (c.due_at-due.ensures L k) d e (commit-fits (actual s))
+    settled (room s) L k (operation s) (id s) (commit_rule (actual s)) (settles s L) (at (found_at c)) ((found (found_at c)).is_live L k) (due c) (c.due_at-due.ensures L k) d e (commit-fits (actual s))
 
 -- ── the reservation stays ──────────────────────────────────────────────────────────────────────
 
@@ -154,7 +154,7 @@ pub returns-in_default-tenant_of : goal.returns-in_default-tenant_of
 returns-in_default-tenant_of c L r =
     let s = begun c.before in
     let missing = is-missing (due c.before).seat (told c.tenant_of.ensures c.in_default-tenant_of.is) in
-    leaves (room s) L r (operation s) (id s) (at (place c.before)) _ MissingTenant (decided c.before _ (commit-missing (due c.before).seat _ _ _ (amount-is c.before) missing) L r) _ refl
+    leaves (room s) L r (operation s) (id s) (at (found_at c.before)) _ MissingTenant (decided c.before _ (commit-missing (due c.before).seat _ _ _ (amount-is c.before) missing) L r) _ refl
 
 -- the airline has an account
 abbrev asked : In-Present → After-tenant_of
@@ -172,7 +172,7 @@ pub returns-in_default-plus : goal.returns-in_default-plus
 returns-in_default-plus c L r =
     let t = asked c.before.before.before in
     let s = begun t in
-    leaves (room s) L r (operation s) (id s) (at (place t)) _ (OverflowOfCommit _) (overflows c.before L r) _ (ap (λ v. reply_of (OverflowOfCommit v)) c.amount.ensures)
+    leaves (room s) L r (operation s) (id s) (at (found_at t)) _ (OverflowOfCommit _) (overflows c.before L r) _ (ap (λ v. reply_of (OverflowOfCommit v)) c.amount.ensures)
 
 pub commit-requires : goal.commit-requires
 commit-requires c =
@@ -193,7 +193,7 @@ pub returns-in_default-commit : goal.returns-in_default-commit
 returns-in_default-commit c L r =
     let t = asked (tenanted c.before.before) in
     let s = begun t in
-    leaves (room s) L r (operation s) (id s) (at (place t)) _ (Overrun _) (settlement c.before.before committing.Overrun c.in_default-commit.is L r) _ (ap (λ v. reply_of (Overrun v)) c.amount-in_default-commit.ensures)
+    leaves (room s) L r (operation s) (id s) (at (found_at t)) _ (Overrun _) (settlement c.before.before committing.Overrun c.in_default-commit.is L r) _ (ap (λ v. reply_of (Overrun v)) c.amount-in_default-commit.ensures)
 
 -- ── the reservation ends ───────────────────────────────────────────────────────────────────────
 
@@ -207,7 +207,7 @@ pub end-requires : goal.end-requires
 end-requires c =
     let t = asked (tenanted c.before.before) in
     let s = begun t in
-    let may = end-allowed (room s) s.requires.ledger s.requires.is_room (operation s) (id s) (at (place t)) (due t) _ (ending c.before s.requires.ledger s.requires.is_room) in
+    let may = end-allowed (room s) s.requires.ledger s.requires.is_room (operation s) (id s) (at (found_at t)) (due t) _ (ending c.before s.requires.ledger s.requires.is_room) in
     (may.0, omega (arith, may.1), omega (arith, may.2))
 
 pub returns : goal.returns
@@ -215,7 +215,7 @@ returns c L r =
     let t = asked (tenanted c.before.before.before.before.before.before.before) in
     let s = begun t in
     let done = c.end in
-    ends (room s) L r (operation s) (id s) (at (place t)) _ (actual-fits s) _ _ (ending c.before.before.before.before.before.before L r) (ended-sound c.before.before.before.before.before.before) _ (ap (λ v. done_with (v ∷ actual s ∷ [])) c.amount-2.ensures) done.new.room done.ensures
+    ends (room s) L r (operation s) (id s) (at (found_at t)) _ (actual-fits s) _ _ (ending c.before.before.before.before.before.before L r) (ended-sound c.before.before.before.before.before.before) _ (ap (λ v. done_with (v ∷ actual s ∷ [])) c.amount-2.ensures) done.new.room done.ensures
 
 pub amount-requires : goal.amount-requires
 amount-requires c = (seat-small _ (allowed (asked c.before.before)).0).remaining

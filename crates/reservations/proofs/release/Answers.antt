@@ -68,8 +68,8 @@ due_at-due-requires c = (found c).readable
 pub release-requires : goal.release-requires
 release-requires c = let due = c.due_at-due in (found c.before.before.before).allowed due.result due.ensures
 
-abbrev place : After-release → In-At
-place c = c.before.before.before.before
+abbrev found_at : After-release → In-At
+found_at c = c.before.before.before.before
 
 abbrev start : After-release → Start
 start c = c.before.before.before.before.before.before.before
@@ -83,13 +83,13 @@ abbrev Decides : After-release → Releasing → Type 0
 Decides c r =
     let s = start c in
     let d = c.due_at-due.result in
-    (L : Ledger) → IsRoom (room s) L → Settled L (operation s) (id s) (at (place c)) d (releasing_settlement d.amount.0 r)
+    (L : Ledger) → IsRoom (room s) L → Settled L (operation s) (id s) (at (found_at c)) d (releasing_settlement d.amount.0 r)
 
 told : (c : After-release) (r : Releasing) → c.release.result ≡ r → Decides c r
 told c r e L k =
     let s = start c in
     let due = c.due_at-due in
-    settled (room s) L k (operation s) (id s) release_rule (settles s L) (at (place c)) ((found (place c)).is_live L k) due.result (due.ensures L k) _
+    settled (room s) L k (operation s) (id s) release_rule (settles s L) (at (found_at c)) ((found (found_at c)).is_live L k) due.result (due.ensures L k) _
     (sym (ap (releasing_settlement due.result.amount.0) e) ∙ c.release.ensures.0) (λ amount o l adds. release-fits amount o l)
 
 pub returns-in_default : goal.returns-in_default
@@ -101,7 +101,7 @@ returns-in_default c L r =
 pub returns-in_default-release : goal.returns-in_default-release
 returns-in_default-release c L r =
     let s = start c.before in
-    leaves (room s) L r (operation s) (id s) (at (place c.before)) _ MissingTenant (told c.before releasing.Missing c.in_default-release.is L r) _ refl
+    leaves (room s) L r (operation s) (id s) (at (found_at c.before)) _ MissingTenant (told c.before releasing.Missing c.in_default-release.is L r) _ refl
 
 -- ── the reservation ends ───────────────────────────────────────────────────────────────────────
 
@@ -114,7 +114,7 @@ returned-sound c = subst ReleasingSound c.in-Returned.is c.release.ensures.1
 pub end-requires : goal.end-requires
 end-requires c =
     let s = start c.before.before in
-    let allowed = end-allowed (room s) (ledger s) (is_room s) (operation s) (id s) (at (place c.before.before)) c.due_at-due.result _ (ending c.before (ledger s) (is_room s)) in
+    let allowed = end-allowed (room s) (ledger s) (is_room s) (operation s) (id s) (at (found_at c.before.before)) c.due_at-due.result _ (ending c.before (ledger s) (is_room s)) in
     (allowed.0, omega (arith, allowed.1), omega (arith, allowed.2))
 
 pub amount-requires : goal.amount-requires
@@ -124,11 +124,11 @@ amount-requires c = (seat-small _ (returned-sound c.before.before.before.before.
 pub amount-requires-2 : goal.amount-requires-2
 amount-requires-2 c =
     let due = c.due_at-due in
-    let allowed = (found (place c.before.before.before.before.before.before.before)).allowed due.result due.ensures in
+    let allowed = (found (found_at c.before.before.before.before.before.before.before)).allowed due.result due.ensures in
     omega (arith, allowed.1, (seat-small _ allowed.0).reserved)
 
 pub returns : goal.returns
 returns c L r =
     let s = start c.before.before.before.before.before.before.before.before in
     let done = c.end in
-    ends (room s) L r (operation s) (id s) (at (place c.before.before.before.before.before.before.before.before)) _ tt _ _ (ending c.before.before.before.before.before.before.before L r) (returned-sound c.before.before.before.before.before.before.before) _ (ap₂ (λ v w. done_with (v ∷ w ∷ [])) c.amount.ensures c.amount-2.ensures) done.new.room done.ensures
+    ends (room s) L r (operation s) (id s) (at (found_at c.before.before.before.before.before.before.before.before)) _ tt _ _ (ending c.before.before.before.before.before.before.before L r) (returned-sound c.before.before.before.before.before.before.before) _ (ap₂ (λ v w. done_with (v ∷ w ∷ [])) c.amount.ensures c.amount-2.ensures) done.new.room done.ensures

@@ -38,34 +38,34 @@ use Rattle.reservations.proofs.reserve.Tie as tie
 use Rattle.reservations.proofs.reserve.Goals as goal
 
 abbrev Start : Type 0
-Start = place.Start tie.the-claims tie.handed_pre tie.handed_post
+Start = place.Start tie.the-claims tie.handed_pre tie.handed_post tie.handed_clauses
 
 abbrev After-after_draw-drawn : Type 0
-After-after_draw-drawn = place.After-after_draw tie.the-claims tie.handed_pre tie.handed_post
+After-after_draw-drawn = place.After-after_draw tie.the-claims tie.handed_pre tie.handed_post tie.handed_clauses
 
 abbrev In-Amount : Type 0
-In-Amount = place.Past-After-known_told tie.the-claims tie.handed_pre tie.handed_post
+In-Amount = place.Past-After-known_told tie.the-claims tie.handed_pre tie.handed_post tie.handed_clauses
 
 abbrev In-Present : Type 0
-In-Present = place.Past-After-enum_told2 tie.the-claims tie.handed_pre tie.handed_post
+In-Present = place.Past-After-enum_told2 tie.the-claims tie.handed_pre tie.handed_post tie.handed_clauses
 
 abbrev In-Fits : Type 0
-In-Fits = place.Past-After-known_told2 tie.the-claims tie.handed_pre tie.handed_post
+In-Fits = place.Past-After-known_told2 tie.the-claims tie.handed_pre tie.handed_post tie.handed_clauses
 
 abbrev In-Within : Type 0
-In-Within = place.Past-After-enum_told5 tie.the-claims tie.handed_pre tie.handed_post
+In-Within = place.Past-After-enum_told5 tie.the-claims tie.handed_pre tie.handed_post tie.handed_clauses
 
 abbrev In-Identifier : Type 0
-In-Identifier = place.Past-After-known_told3 tie.the-claims tie.handed_pre tie.handed_post
+In-Identifier = place.Past-After-known_told3 tie.the-claims tie.handed_pre tie.handed_post tie.handed_clauses
 
 abbrev After-reserve : Type 0
-After-reserve = place.After-reserve tie.the-claims tie.handed_pre tie.handed_post
+After-reserve = place.After-reserve tie.the-claims tie.handed_pre tie.handed_post tie.handed_clauses
 
 abbrev In-Booked : Type 0
-In-Booked = place.Past-After-known_told4 tie.the-claims tie.handed_pre tie.handed_post
+In-Booked = place.Past-After-known_told4 tie.the-claims tie.handed_pre tie.handed_post tie.handed_clauses
 
 abbrev In-At : Type 0
-In-At = place.Past-After-known_told5 tie.the-claims tie.handed_pre tie.handed_post
+In-At = place.Past-After-known_told5 tie.the-claims tie.handed_pre tie.handed_post tie.handed_clauses
 
 -- ── at the entry ───────────────────────────────────────────────────────────────────────────────
 

@@ -10,7 +10,7 @@ returns-then-place-eq0 c before rs h = rw (eq-eqb c.args.place.account 0 c.if-pl
 pub append_row-requires : goal.append_row-requires
 append_row-requires c =
     let room = rw (ne_eqb c.args.place.account 0 c.if-place-eq0.false) at c.requires.room in
-    (room, c.requires.short)
+    record { room = room; short = c.requires.short; few = c.requires.few }
 
 pub returns : goal.returns
 returns c before rs h =

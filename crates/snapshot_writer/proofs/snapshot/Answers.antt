@@ -22,22 +22,22 @@ use Rattle.snapshot_writer.proofs.snapshot.Tie as tie
 use Rattle.snapshot_writer.proofs.snapshot.Goals as goal
 
 abbrev Start : Type 0
-Start = place.Start tie.the-claims tie.handed_pre tie.handed_post
+Start = place.Start tie.the-claims tie.handed_pre tie.handed_post tie.handed_clauses
 
 abbrev After-stamp : Type 0
-After-stamp = place.After-stamp tie.the-claims tie.handed_pre tie.handed_post
+After-stamp = place.After-stamp tie.the-claims tie.handed_pre tie.handed_post tie.handed_clauses
 
 abbrev After-has_room : Type 0
-After-has_room = place.After-has_room tie.the-claims tie.handed_pre tie.handed_post
+After-has_room = place.After-has_room tie.the-claims tie.handed_pre tie.handed_post tie.handed_clauses
 
 abbrev Else-not-has_room : Type 0
-Else-not-has_room = place.Else1 tie.the-claims tie.handed_pre tie.handed_post
+Else-not-has_room = place.Else1 tie.the-claims tie.handed_pre tie.handed_post tie.handed_clauses
 
 abbrev After-write_rows-extent : Type 0
-After-write_rows-extent = place.After-write_rows tie.the-claims tie.handed_pre tie.handed_post
+After-write_rows-extent = place.After-write_rows tie.the-claims tie.handed_pre tie.handed_post tie.handed_clauses
 
 abbrev After-write_header : Type 0
-After-write_header = place.After-write_header tie.the-claims tie.handed_pre tie.handed_post
+After-write_header = place.After-write_header tie.the-claims tie.handed_pre tie.handed_post tie.handed_clauses
 
 abbrev room : Start → List ℕ
 room s = s.args.room.now
@@ -59,7 +59,9 @@ stamps : (c : After-stamp) → OfRoom (room (start c)) (λ L. stamped_head (head
 stamps c L r = sym (c.stamp.ensures ∙ ap stamped_head (c.load_head.ensures ∙ head-is (room (start c)) L r))
 
 pub returns-in_default : goal.returns-in_default
-returns-in_default c = (λ L r. answers-exhausted (room (start c.before.before)) L r (length (output (start c.before.before))) (stamps c.before.before L r ∙ c.in_default.is), (refl, tt))
+returns-in_default c =
+    let s = start c.before.before in
+    record { performs = λ L r. answers-exhausted (room s) L r (length (output s)) (stamps c.before.before L r ∙ c.in_default.is); output = refl; size = tt }
 
 -- ── the output measured ────────────────────────────────────────────────────────────────────────
 
@@ -71,10 +73,12 @@ entry c = start (stamped c)
 
 pub returns-then-not-has_room : goal.returns-then-not-has_room
 returns-then-not-has_room c =
-    let s = entry c.before.before in (
-      λ L r. answers-short (room s) L r (length (output s)) _ (stamps (stamped c.before.before) L r ∙ c.in-Next.is) (not-false _ (sym (c.has_room.ensures L r) ∙ not-true _ c.if-not-has_room.true-raw)),
-      (refl, tt),
-    )
+    let s = entry c.before.before in
+    record {
+      performs = λ L r. answers-short (room s) L r (length (output s)) _ (stamps (stamped c.before.before) L r ∙ c.in-Next.is) (not-false _ (sym (c.has_room.ensures L r) ∙ not-true _ c.if-not-has_room.true-raw));
+      output = refl;
+      size = tt;
+    }
 
 enough : (c : Else-not-has_room) → OfRoom (room (entry c.before)) (λ L. too_short_for (length (output (entry c.before))) (snapshot_of L) ≡ false)
 enough c L r = not-true _ (sym (c.has_room.ensures L r) ∙ not-false _ c.if-not-has_room.false-raw)
@@ -116,10 +120,12 @@ into c L r =
 
 pub returns : goal.returns
 returns c =
-    let sizes = (counted c.before.before.before.before.before.before.before).load_sizes-sizes in
-    let e = roomy (counted c.before.before.before.before.before.before.before) in
-    let s = entry e.before in (
-      λ L r. answers-written (room s) L r (length (output s)) (head e) (stamps (stamped e.before) L r ∙ e.in-Next.is) (enough e L r) sizes.result sizes.ensures _ _
-          (into c.before.before.before.before.before.before.before L r).0 c.put_head.ensures,
-      ((into c.before.before.before.before.before.before.before s.requires.ledger s.requires.is_room).1, omega (arith, long e s.requires.ledger s.requires.is_room, ((counted c.before.before.before.before.before.before.before).write_rows-extent.ensures s.requires.ledger s.requires.is_room).end)),
-    )
+    let w = c.before.before.before.before.before.before.before in
+    let sizes = (counted w).load_sizes-sizes in
+    let e = roomy (counted w) in
+    let s = entry e.before in
+    record {
+      performs = λ L r. answers-written (room s) L r (length (output s)) (head e) (stamps (stamped e.before) L r ∙ e.in-Next.is) (enough e L r) sizes.result sizes.ensures _ _ (into w L r).0 c.put_head.ensures;
+      output = (into w s.requires.ledger s.requires.is_room).1;
+      size = omega (arith, long e s.requires.ledger s.requires.is_room, ((counted w).write_rows-extent.ensures s.requires.ledger s.requires.is_room).end);
+    }

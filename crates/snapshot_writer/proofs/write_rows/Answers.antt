@@ -16,10 +16,10 @@ use Rattle.snapshot_writer.proofs.write_rows.Tie as tie
 use Rattle.snapshot_writer.proofs.write_rows.Goals as goal
 
 abbrev After-load_sizes-sizes : Type 0
-After-load_sizes-sizes = place.After-load_sizes tie.the-claims tie.handed_pre tie.handed_post goal.the-invariant-loop-i goal.the-decreases-loop-i
+After-load_sizes-sizes = place.After-load_sizes tie.the-claims tie.handed_pre tie.handed_post goal.the-invariant-loop-i goal.the-decreases-loop-i tie.handed_clauses
 
 abbrev In-loop-i : Type 0
-In-loop-i = place.In-loop tie.the-claims tie.handed_pre tie.handed_post goal.the-invariant-loop-i goal.the-decreases-loop-i
+In-loop-i = place.In-loop tie.the-claims tie.handed_pre tie.handed_post goal.the-invariant-loop-i goal.the-decreases-loop-i tie.handed_clauses
 
 in_use : (c : After-load_sizes-sizes) → c.load_sizes-sizes.result.used ≡ (sizes_of c.args.room.now).used
 in_use c = ap (λ s. s.used) c.load_sizes-sizes.ensures
@@ -38,10 +38,12 @@ append_account-extent-requires c =
     let r = c.requires.0.is_room in
     let i = c.loop-i.i in
     let within = below c.before.before.before in
-    let written = c.loop-i.invariant.2 in (
-      omega (arith, written.end, size-next room L r i within, ap row_size c.load_place.ensures, size-within room L r (i + 1), c.requires.1 L r, c.loop-i.invariant.1),
-      (omega (arith, (place-in-room room L r i within).1, ap (λ p. p.name.length) c.load_place.ensures), omega (arith, written.rows, count_most room i, used-most room L r)),
-    )
+    let written = c.loop-i.invariant.2 in
+    record {
+      room = omega (arith, written.end, size-next room L r i within, ap row_size c.load_place.ensures, size-within room L r (i + 1), c.requires.1 L r, c.loop-i.invariant.1);
+      short = omega (arith, (place-in-room room L r i within).1, ap (λ p. p.name.length) c.load_place.ensures);
+      few = omega (arith, written.rows, count_most room i, used-most room L r);
+    }
 
 pub loop-i-preserved : goal.loop-i-preserved
 loop-i-preserved c =

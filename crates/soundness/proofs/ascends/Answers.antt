@@ -17,10 +17,10 @@ use Rattle.soundness.proofs.ascends.Tie as tie
 use Rattle.soundness.proofs.ascends.Goals as goal
 
 abbrev Start : Type 0
-Start = place.Start tie.the-claims tie.handed_pre tie.handed_post
+Start = place.Start tie.the-claims tie.handed_pre tie.handed_post tie.handed_clauses
 
 abbrev After-later-1 : Type 0
-After-later-1 = place.After-later tie.the-claims tie.handed_pre tie.handed_post
+After-later-1 = place.After-later tie.the-claims tie.handed_pre tie.handed_post tie.handed_clauses
 
 before-decides : (o : Ordering) → Decides (o ≡ Ordering.lt) (is_before o)
 before-decides o = by_order (λ p. Decides (p ≡ Ordering.lt) (is_before p)) o (λ _. accept refl) (λ _. refuse (λ e. absurd (let z : ◌≡◌ {A = ℕ} 0 1 = cc in omega arith))) (λ _. refuse (λ e. absurd (let z : ◌≡◌ {A = ℕ} 0 1 = cc in omega arith)))
@@ -40,8 +40,8 @@ precedes-requires c =
     let s = start c.before in
     let room = s.args.room.now in
     let bytes : All IsByte room = all-bytes room c.shared_slice_known-1.given in
-    let before = loaded _ _ c.load_place-before.ensures (s.requires.before.0 (omega (arith, c.if-i-eq0.false))) (name-at-bytes (s.args.i - 1) room bytes) in
-    let here = loaded _ _ c.load_place-here.ensures s.requires.before.1 (name-at-bytes s.args.i room bytes) in record { stored = (before.0, here.0); bytes = (before.1, here.1) }
+    let before = loaded _ _ c.load_place-before.ensures (c.requires.before (omega (arith, c.if-i-eq0.false))) (name-at-bytes (s.args.i - 1) room bytes) in
+    let here = loaded _ _ c.load_place-here.ensures c.requires.here (name-at-bytes s.args.i room bytes) in record { stored = (before.0, here.0); bytes = (before.1, here.1) }
 
 pub returns : goal.returns
 returns c =

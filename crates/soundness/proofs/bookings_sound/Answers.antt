@@ -19,16 +19,16 @@ use Rattle.soundness.proofs.bookings_sound.Tie as tie
 use Rattle.soundness.proofs.bookings_sound.Goals as goal
 
 abbrev Start : Type 0
-Start = place.Start tie.the-claims tie.handed_pre tie.handed_post goal.the-invariant-loop-j goal.the-decreases-loop-j
+Start = place.Start tie.the-claims tie.handed_pre tie.handed_post goal.the-invariant-loop-j goal.the-decreases-loop-j tie.handed_clauses
 
 abbrev At-loop-j : Type 0
-At-loop-j = place.At-loop tie.the-claims tie.handed_pre tie.handed_post goal.the-invariant-loop-j goal.the-decreases-loop-j
+At-loop-j = place.At-loop tie.the-claims tie.handed_pre tie.handed_post goal.the-invariant-loop-j goal.the-decreases-loop-j tie.handed_clauses
 
 abbrev After-load_booking-booking : Type 0
-After-load_booking-booking = place.After-load_booking tie.the-claims tie.handed_pre tie.handed_post goal.the-invariant-loop-j goal.the-decreases-loop-j
+After-load_booking-booking = place.After-load_booking tie.the-claims tie.handed_pre tie.handed_post goal.the-invariant-loop-j goal.the-decreases-loop-j tie.handed_clauses
 
 abbrev Else-not-booking_sound : Type 0
-Else-not-booking_sound = place.Else1 tie.the-claims tie.handed_pre tie.handed_post goal.the-invariant-loop-j goal.the-decreases-loop-j
+Else-not-booking_sound = place.Else1 tie.the-claims tie.handed_pre tie.handed_post goal.the-invariant-loop-j goal.the-decreases-loop-j tie.handed_clauses
 
 abbrev entry : At-loop-j → Start
 entry c = c.before.before.before

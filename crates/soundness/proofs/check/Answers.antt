@@ -10,7 +10,7 @@ use Rattle.soundness.proofs.check.Tie as tie
 use Rattle.soundness.proofs.check.Goals as goal
 
 abbrev Else-not-head_sound : Type 0
-Else-not-head_sound = place.Else3 tie.the-claims tie.handed_pre tie.handed_post
+Else-not-head_sound = place.Else3 tie.the-claims tie.handed_pre tie.handed_post tie.handed_clauses
 
 pub returns-then-room-lt-HEAD_SIZE : goal.returns-then-room-lt-HEAD_SIZE
 returns-then-room-lt-HEAD_SIZE c = refuse (λ h. omega (arith, h.long))

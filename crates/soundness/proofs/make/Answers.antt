@@ -20,7 +20,7 @@ use Rattle.soundness.proofs.make.Tie as tie
 use Rattle.soundness.proofs.make.Goals as goal
 
 abbrev Else-not-sizes_sound : Type 0
-Else-not-sizes_sound = place.Else1 tie.the-claims tie.handed_pre tie.handed_post
+Else-not-sizes_sound = place.Else1 tie.the-claims tie.handed_pre tie.handed_post tie.handed_clauses
 
 pub returns-then-not-sizes_sound : goal.returns-then-not-sizes_sound
 returns-then-not-sizes_sound c =

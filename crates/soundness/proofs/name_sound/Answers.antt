@@ -26,13 +26,13 @@ use Rattle.soundness.proofs.name_sound.Tie as tie
 use Rattle.soundness.proofs.name_sound.Goals as goal
 
 abbrev Start : Type 0
-Start = place.Start tie.the-claims tie.handed_pre tie.handed_post goal.the-invariant-loop-part goal.the-decreases-loop-part
+Start = place.Start tie.the-claims tie.handed_pre tie.handed_post goal.the-invariant-loop-part goal.the-decreases-loop-part tie.handed_clauses
 
 abbrev At-loop-part : Type 0
-At-loop-part = place.At-loop tie.the-claims tie.handed_pre tie.handed_post goal.the-invariant-loop-part goal.the-decreases-loop-part
+At-loop-part = place.At-loop tie.the-claims tie.handed_pre tie.handed_post goal.the-invariant-loop-part goal.the-decreases-loop-part tie.handed_clauses
 
 abbrev After-is_clear : Type 0
-After-is_clear = place.After-is_clear tie.the-claims tie.handed_pre tie.handed_post goal.the-invariant-loop-part goal.the-decreases-loop-part
+After-is_clear = place.After-is_clear tie.the-claims tie.handed_pre tie.handed_post goal.the-invariant-loop-part goal.the-decreases-loop-part tie.handed_clauses
 
 abbrev entry : At-loop-part → Start
 entry c = c.before.before.before.before

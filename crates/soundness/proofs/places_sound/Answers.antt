@@ -24,16 +24,16 @@ use Rattle.soundness.proofs.places_sound.Tie as tie
 use Rattle.soundness.proofs.places_sound.Goals as goal
 
 abbrev Start : Type 0
-Start = place.Start tie.the-claims tie.handed_pre tie.handed_post goal.the-invariant-loop-i goal.the-decreases-loop-i
+Start = place.Start tie.the-claims tie.handed_pre tie.handed_post goal.the-invariant-loop-i goal.the-decreases-loop-i tie.handed_clauses
 
 abbrev At-loop-i : Type 0
-At-loop-i = place.At-loop tie.the-claims tie.handed_pre tie.handed_post goal.the-invariant-loop-i goal.the-decreases-loop-i
+At-loop-i = place.At-loop tie.the-claims tie.handed_pre tie.handed_post goal.the-invariant-loop-i goal.the-decreases-loop-i tie.handed_clauses
 
 abbrev After-load_place-place : Type 0
-After-load_place-place = place.After-load_place tie.the-claims tie.handed_pre tie.handed_post goal.the-invariant-loop-i goal.the-decreases-loop-i
+After-load_place-place = place.After-load_place tie.the-claims tie.handed_pre tie.handed_post goal.the-invariant-loop-i goal.the-decreases-loop-i tie.handed_clauses
 
 abbrev Else-not-name_sound : Type 0
-Else-not-name_sound = place.Else2 tie.the-claims tie.handed_pre tie.handed_post goal.the-invariant-loop-i goal.the-decreases-loop-i
+Else-not-name_sound = place.Else2 tie.the-claims tie.handed_pre tie.handed_post goal.the-invariant-loop-i goal.the-decreases-loop-i tie.handed_clauses
 
 abbrev entry : At-loop-i → Start
 entry c = c.before.before.before
@@ -60,7 +60,11 @@ pub ascends-requires : goal.ascends-requires
 ascends-requires c =
     let room = (entry c.before.before.before.before.before.before.before).args.room.now in
     let i = c.loop-i.i in
-    (omega arith, (λ h. (table-all place_of place_size head_size room PlaceSound i (i - 1) c.loop-i.invariant.2 (omega arith)).name, (passed c.before).name))
+    record {
+      within = omega arith;
+      before = λ h. (table-all place_of place_size head_size room PlaceSound i (i - 1) c.loop-i.invariant.2 (omega arith)).name;
+      here = (passed c.before).name;
+    }
 
 pub returns-then-not-ascends : goal.returns-then-not-ascends
 returns-then-not-ascends c = record { decides = refuse (λ sound. refused c.ascends.ensures c.if-not-ascends.true-raw (name-follows _ _ _ _ sound c.loop-i-test.true)); noted = λ e. true-false e refl }
@@ -84,13 +88,16 @@ returns c =
     let a = (entry c.before.before).args in
     let room = a.room.now in
     let inv = c.loop-i.invariant in
-    let e : c.loop-i.i ≡ a.used = omega arith in record { decides = by_equal c.loop-i.left 0
+    let e : c.loop-i.i ≡ a.used = omega arith in record {
+      decides = by_equal c.loop-i.left 0
           (λ z. record {
             each = subst (λ n. All PlaceSound (places n room)) e inv.2;
             ascend = subst (λ n. Pairwise NameBefore (places n room)) e inv.3;
             baseline = subst (λ n. a.baseline ≤ committed_by n room) e (omega (arith, inv.4));
           })
-          (λ sound. let enough : a.baseline ≤ committed_by c.loop-i.i room = subst (λ n. a.baseline ≤ committed_by n room) (sym e) sound.baseline in omega (arith, inv.4)); noted = λ _. subst (λ n. Noted n room c.loop-i.reserved) e inv.5 }
+          (λ sound. let enough : a.baseline ≤ committed_by c.loop-i.i room = subst (λ n. a.baseline ≤ committed_by n room) (sym e) sound.baseline in omega (arith, inv.4));
+      noted = λ _. subst (λ n. Noted n room c.loop-i.reserved) e inv.5;
+    }
 
 pub loop-i-init : goal.loop-i-init
 loop-i-init c = (omega arith, refl, tt, tt, unfold sum in omega arith, refl)

@@ -17,10 +17,10 @@ use Rattle.soundness.proofs.tables_sound.Tie as tie
 use Rattle.soundness.proofs.tables_sound.Goals as goal
 
 abbrev After-shared_slice_known-1 : Type 0
-After-shared_slice_known-1 = place.After-shared_slice_known tie.the-claims tie.handed_pre tie.handed_post
+After-shared_slice_known-1 = place.After-shared_slice_known tie.the-claims tie.handed_pre tie.handed_post tie.handed_clauses
 
 abbrev Else-not-places_sound : Type 0
-Else-not-places_sound = place.Else1 tie.the-claims tie.handed_pre tie.handed_post
+Else-not-places_sound = place.Else1 tie.the-claims tie.handed_pre tie.handed_post tie.handed_clauses
 
 abbrev Room : After-shared_slice_known-1 → List ℕ
 Room c = c.args.room.now

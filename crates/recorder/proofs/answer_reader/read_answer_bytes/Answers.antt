@@ -55,5 +55,4 @@ returns-in_default c = no_answer (read c.before.before) (start c.before.before).
 
 pub returns : goal.returns
 returns c =
-    let values = c.values-1.given in
-    an-answer (read c.before.before.before.before) (start c.before.before.before.before).args.words.now _ (as_read c.before.before.before.before _ values.1) c.store.ensures
+    an-answer (read c.before.before.before.before) (start c.before.before.before.before).args.words.now _ (as_read c.before.before.before.before _ c.in-Values.is) c.store.ensures

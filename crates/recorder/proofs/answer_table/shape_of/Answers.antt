@@ -1,7 +1,7 @@
 -- `answer_table::shape_of`: done by the shape behind 0, a number above 24 by `beyond`, and all others by `no-bit`, `of-top-up` and `of_others` of AnswerTable.antt, which say
 -- what the bit settles.
 use mathlib.Core.Path.{◌≡◌, sym, ◌∙◌, ap}
-use mathlib.Core.Logic.{⊎_elim, inl, inr}
+use mathlib.Core.Logic.{inl, inr}
 use Prim.Native.Nat.{◌/◌, ◌%◌, ◌^◌}
 use native.Mathlib.Omega.{arith}
 use borrow.Author.Rules.{rules}
@@ -11,6 +11,7 @@ use Rattle.recorder.proofs.AnswerTable.{bit_at, beyond, no-bit, of-top-up, of_ot
 use Rattle.recorder.proofs.answer_table.shape_of.Lts as place
 use Rattle.recorder.proofs.answer_table.shape_of.Tie as tie
 use Rattle.recorder.proofs.answer_table.shape_of.Goals as goal
+use Rattle.recorder.proofs.answer_table.shape_of.Goals.{then-number-eq-OVERFLOW_NUMBER+else-code-eq-TOP_UP, else-number-eq-OVERFLOW_NUMBER}
 
 abbrev After-refusals : Type 0
 After-refusals = place.After-refusals tie.the-claims tie.handed_pre tie.handed_post
@@ -41,4 +42,7 @@ pub returns : goal.returns
 returns c =
     c.carried.ensures
     ∙ of_others _ _ (omega arith) (omega arith) (is_set c.before.before)
-    (⊎_elim (λ four. inl (four.0.taken, four.1.left)) (λ other. inr other.left) c.if-number-eq-OVERFLOW_NUMBER.branch)
+    (elim c.if-number-eq-OVERFLOW_NUMBER.branch [
+      | then-number-eq-OVERFLOW_NUMBER+else-code-eq-TOP_UP w ↦ inl (w.if-number-eq-OVERFLOW_NUMBER.true, w.if-code-eq-TOP_UP.false)
+      | else-number-eq-OVERFLOW_NUMBER w ↦ inr w.if-number-eq-OVERFLOW_NUMBER.false
+    ])

@@ -47,7 +47,7 @@ module _ (c : After-number_in-number) where
   room = start.args.output.now
 
   nine : length words ≡ 9
-  nine = c.number_in-arg-1.given.0
+  nine = c.number_in-arg-1.given
 
 pub returns-then-number-gt-LAST_NUMBER : goal.returns-then-number-gt-LAST_NUMBER
 returns-then-number-gt-LAST_NUMBER c =

@@ -9,6 +9,7 @@ use Rattle.rules.proofs.Tests.{equal_or_not}
 use Rattle.recorder.specs.Recording.{parts}
 use Rattle.recorder.proofs.OperationFrames.{at_code, fence-behind, since-behind, no-operation, unknown-frame}
 use Rattle.recorder.proofs.operations.write.Goals as goal
+use Rattle.recorder.proofs.operations.write.Goals.{in-14-1, in_default+else-code-lt1+else-code-lt5+then-code-lt10}
 
 eight-or-nine : (code : ℕ) → 4 < code → code < 10 → code ≢ 5 → code ≢ 6 → code ≢ 7 → code ≢ 8 → code ≡ 9
 eight-or-nine code low high five six seven eight = omega arith
@@ -19,13 +20,11 @@ above code low ten eleven twelve thirteen fourteen = omega arith
 -- the arms 8 and 9 come as a range, and 14 by itself
 pub write_snapshot-requires : goal.write_snapshot-requires
 write_snapshot-requires c =
-    let code : ℕ = c.args.code in
-    ⊎_elim
-    (λ k. inr (inr k.keys4))
-    (λ range. let rest = range.0.rest in
-    ⊎_elim (λ e. inl e)
-    (λ other. inr (inl (eight-or-nine code range.2.left range.3.taken rest.0.0.0.0.0.1 rest.0.0.0.0.1 (λ e. rest.0.0.0.1 (inl e)) other))) (equal_or_not code 8))
-    c.in-5.branch
+    elim c.in-8-1.branch [
+      | in-14-1 w ↦ inr (inr (omega arith))
+      | in_default+else-code-lt1+else-code-lt5+then-code-lt10 w ↦
+          ⊎_elim (λ e. inl e) (λ other. inr (inl (grind arith))) (equal_or_not c.args.code 8)
+    ]
 
 pub returns-in-5 : goal.returns-in-5
 returns-in-5 c =
@@ -63,8 +62,7 @@ pub returns-in_default-2 : goal.returns-in_default-2
 returns-in_default-2 c =
     let args = c.args in
     let code = args.code in
-    let other = c.in-5.rest in
-    let past : 14 < code = above code c.if-code-lt10.false other.0.1 (λ e. other.0.0.0.1 (inr (inl e))) other.1 (λ e. other.0.0.0.1 (inr (inr e))) other.0.0.1 in
+    let past : 14 < code = grind arith in
     no-operation args.as_line args.code (parts args.number args.amount.0 args.part.now) args.output.now (unknown-frame args.code (λ _. past) (parts args.number args.amount.0 args.part.now))
 
 pub returns-in-8 : goal.returns-in-8
