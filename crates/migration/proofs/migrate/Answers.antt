@@ -15,6 +15,7 @@ use Rattle.numbers.proofs.Bytes.{all-bytes}
 use Rattle.names.specs.Names.{spelled}
 use Rattle.snapshot_reader.proofs.Header.{is-long}
 use Rattle.validation.specs.Judgement.{refusal_of, refusal_in}
+use Rattle.validation.proofs.Deciding.{not_done}
 use Rattle.migration.proofs.MigratedBytes.{migrated-bytes, migrated-length, handed_out, kept-behind}
 use Rattle.migration.proofs.Untouched.{is-refused, same_answer, untouched}
 use Rattle.migration.proofs.migrate.Lts as place
@@ -22,16 +23,16 @@ use Rattle.migration.proofs.migrate.Tie as tie
 use Rattle.migration.proofs.migrate.Goals as goal
 
 abbrev Start : Type 0
-Start = place.Start tie.the-claims tie.handed_pre tie.handed_post
+Start = place.Start tie.the-claims tie.handed_pre tie.handed_post tie.handed_clauses
 
 abbrev After-refusal-judged : Type 0
-After-refusal-judged = place.After-refusal tie.the-claims tie.handed_pre tie.handed_post
+After-refusal-judged = place.After-refusal tie.the-claims tie.handed_pre tie.handed_post tie.handed_clauses
 
 abbrev In-Done : Type 0
-In-Done = place.Past-After-enum_told tie.the-claims tie.handed_pre tie.handed_post
+In-Done = place.Past-After-enum_told tie.the-claims tie.handed_pre tie.handed_post tie.handed_clauses
 
 abbrev After-write_migrated : Type 0
-After-write_migrated = place.After-write_migrated tie.the-claims tie.handed_pre tie.handed_post
+After-write_migrated = place.After-write_migrated tie.the-claims tie.handed_pre tie.handed_post tie.handed_clauses
 
 abbrev start : After-refusal-judged → Start
 start c = c.before.before.before
@@ -40,8 +41,8 @@ pub returns-in_default : goal.returns-in_default
 returns-in_default c =
     let judged = c.refusal-judged in
     let j = judged.result in
-    let refused = is-refused (spelled j.name) j.verdict c.in-Done.keys2 in
-    (λ s e. same_answer refused _ _ ∙ judged.ensures.answer s e, (sym (untouched refused _ _), judged.ensures.room.1))
+    let refused = is-refused (spelled j.name) j.verdict (not_done _ c.in_default.not-Done) in
+    record { answer = λ s e. same_answer refused _ _ ∙ judged.ensures.answer s e; output = sym (untouched refused _ _); form = judged.ensures.form }
 
 -- ── nothing is refused ─────────────────────────────────────────────────────────────────────────
 
@@ -49,7 +50,7 @@ passes : (c : In-Done) → refusal_in c.refusal-judged.result ≡ none
 passes c = ap (refusal_of (spelled c.refusal-judged.result.name)) c.in-Done.is
 
 room : (c : In-Done) → let a = (start c.before).args in (a.fence ≤ M) × (length a.bytes.now ≤ length a.output.now)
-room c = c.refusal-judged.ensures.room.0 (passes c)
+room c = c.refusal-judged.ensures.room (passes c)
 
 module _ (c : After-write_migrated) where
   abbrev told : In-Done
@@ -96,7 +97,7 @@ returns c =
     let pre = (start (told c.before.before.before).before).requires in
     let answer : Option Refusal → List ℕ → Reply = λ o handed. reply_or o (done (SnapshotBytes handed ∷ [])) in
     let kept-output = kept c.before.before.before pre.snapshot pre.is_read ∙ ap (λ o. output_after (answer o (take (length (bytes c.before.before.before)) (after c.before.before.before))) (output c.before.before.before)) (sym (passes (told c.before.before.before))) in
-    (λ s e. ap (answer (refusal_in judged.result)) (front c.before.before.before s e) ∙ judged.ensures.answer s e, (kept-output, judged.ensures.room.1))
+    record { answer = λ s e. ap (answer (refusal_in judged.result)) (front c.before.before.before s e) ∙ judged.ensures.answer s e; output = kept-output; form = judged.ensures.form }
 
 pub tagged-version-requires : goal.tagged-version-requires
 tagged-version-requires c = (room c.before).0
