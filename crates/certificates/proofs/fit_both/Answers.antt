@@ -16,6 +16,6 @@ returns-in_default-fit c =
 
 pub returns : goal.returns
 returns c =
-    let initial = fits-is (value_of c.args.initial) c.«initial-total».given.0.0 (sym c.fit.ensures ∙ c.«initial-total».given.1) in
-    let committed = fits-is (value_of c.args.committed) c.«committed-total».given.0.0 (sym c.fit-2.ensures ∙ c.«committed-total».given.1) in
+    let initial = fits-is (value_of c.args.initial) c.in-Fits.initial_total (sym c.fit.ensures ∙ c.in-Fits.is) in
+    let committed = fits-is (value_of c.args.committed) c.in-Fits-fit.committed_total (sym c.fit-2.ensures ∙ c.in-Fits-fit.is) in
     both-fit (value_of c.args.initial) (value_of c.args.committed) _ _ initial.0 committed.0 initial.1 committed.1

@@ -8,7 +8,7 @@ use Rattle.rules.specs.SnapshotsMigrationCertificates.{and_then, is_none}
 use Rattle.rules.proofs.Tests.{by-option, none-some}
 use Rattle.names.specs.Names.{spelled}
 use Rattle.validation.specs.Judgement.{refusal_of}
-use Rattle.validation.proofs.Deciding.{refuses}
+use Rattle.validation.proofs.Deciding.{not_done, refuses}
 use Rattle.certificates.proofs.is_balanced.Goals as goal
 
 -- what decides, whatever comes later, is a refusal
@@ -21,7 +21,7 @@ returns-in_default c s e =
     let judged = c.conservation-judged in
     let a = spelled judged.result.name in
     let v = judged.result.verdict in
-    sym (decides-some (refusal_of a v) (λ later. refuses a v later c.in-Done.keys2)) ∙ ap is_none (judged.ensures.refusal s e)
+    sym (decides-some (refusal_of a v) (λ later. refuses a v later (not_done v c.in_default.not-Done))) ∙ ap is_none (judged.ensures.refusal s e)
 
 pub returns : goal.returns
 returns c s e =

@@ -59,8 +59,8 @@ returns-in_default-totals c L r =
 
 pub returns : goal.returns
 returns c L r =
-    let totals = c.totals-1 in
+    let totals = c.in-Fit in
     let t = taken c.before.before.before.before.before L r in
-    let fitting = told_fit (account_rows L.places) (summary c.before.before.before.before.before).totals (ap (λ s. s.totals) t.summary) _ _ totals.given.1 in
+    let fitting = told_fit (account_rows L.places) (summary c.before.before.before.before.before).totals (ap (λ s. s.totals) t.summary) _ _ totals.is in
     becomes (room (start c.before.before.before.before.before)) L r conservation_proof (proof-sound L r.sound) _ _ (summary c.before.before.before.before.before).head (summary_of L).head (proof-is L t.not_last _ _ fitting)
-    (ap (λ s. proved s totals.given.0.0 totals.given.0.1.0) t.summary) (ap (λ s. s.head) t.summary) c.put_head.new.room c.put_head.ensures
+    (ap (λ s. proved s totals.initial_total totals.committed_total) t.summary) (ap (λ s. s.head) t.summary) c.put_head.new.room c.put_head.ensures

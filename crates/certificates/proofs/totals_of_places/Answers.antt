@@ -19,16 +19,16 @@ use Rattle.certificates.proofs.totals_of_places.Tie as tie
 use Rattle.certificates.proofs.totals_of_places.Goals as goal
 
 abbrev Start : Type 0
-Start = place.Start tie.the-claims tie.handed_pre tie.handed_post goal.the-invariant-loop-i goal.the-decreases-loop-i
+Start = place.Start tie.the-claims tie.handed_pre tie.handed_post goal.the-invariant-loop-i goal.the-decreases-loop-i tie.handed_clauses
 
 abbrev After-load_sizes-sizes : Type 0
-After-load_sizes-sizes = place.After-load_sizes tie.the-claims tie.handed_pre tie.handed_post goal.the-invariant-loop-i goal.the-decreases-loop-i
+After-load_sizes-sizes = place.After-load_sizes tie.the-claims tie.handed_pre tie.handed_post goal.the-invariant-loop-i goal.the-decreases-loop-i tie.handed_clauses
 
 abbrev In-loop-i : Type 0
-In-loop-i = place.In-loop tie.the-claims tie.handed_pre tie.handed_post goal.the-invariant-loop-i goal.the-decreases-loop-i
+In-loop-i = place.In-loop tie.the-claims tie.handed_pre tie.handed_post goal.the-invariant-loop-i goal.the-decreases-loop-i tie.handed_clauses
 
 abbrev After-load_place-place : Type 0
-After-load_place-place = place.After-load_place tie.the-claims tie.handed_pre tie.handed_post goal.the-invariant-loop-i goal.the-decreases-loop-i
+After-load_place-place = place.After-load_place tie.the-claims tie.handed_pre tie.handed_post goal.the-invariant-loop-i goal.the-decreases-loop-i tie.handed_clauses
 
 in_use : (c : After-load_sizes-sizes) → c.load_sizes-sizes.result.used ≡ (sizes_of c.args.room.now).used
 in_use c = ap (λ s. s.used) c.load_sizes-sizes.ensures
@@ -88,7 +88,7 @@ loop-i-preserved c =
     let t = p in
     let l = t.loop-i in (
       omega (arith, t.loop-i-test.true),
-      places-next initials (room t.before.before.before.before.before.before) (start t.before.before.before.before.before.before).requires.ledger (is_room t.before.before.before.before.before.before) (i t.before.before.before.before.before.before) l.initial l.invariant.1 (passing t.before.before.before.before.before.before) c.amount.result c.plus-initial.result
+      places-next initials (room t.before.before.before.before.before.before) (start t.before.before.before.before.before.before).requires.ledger (is_room t.before.before.before.before.before.before) (i t.before.before.before.before.before.before) l.initial' l.invariant.1 (passing t.before.before.before.before.before.before) c.amount.result c.plus-initial.result
           (c.amount.ensures ∙ ap (λ p. pos p.initial) p.load_place-place.ensures) (c.plus-initial.ensures.value, c.plus-initial.ensures.moved),
       places-next commits (room t.before.before.before.before.before.before) (start t.before.before.before.before.before.before).requires.ledger (is_room t.before.before.before.before.before.before) (i t.before.before.before.before.before.before) l.committed l.invariant.2 (passing t.before.before.before.before.before.before) c.amount-in-loop-i.result c.plus-committed.result
           (c.amount-in-loop-i.ensures ∙ ap (λ p. pos p.committed) p.load_place-place.ensures) (c.plus-committed.ensures.value, c.plus-committed.ensures.moved),
@@ -101,7 +101,7 @@ returns c L is_room =
     let l = c.loop-i in
     let room = c.args.room.now in
     let passed : (sizes_of room).used ≤ l.i = omega (arith, in_use c.before.before.before.before.before.before, c) in
-    c.fit_both.ensures ∙ ap₂ both_fitted (places-all initials room L is_room l.i l.initial l.invariant.1 passed) (places-all commits room L is_room l.i l.committed l.invariant.2 passed)
+    c.fit_both.ensures ∙ ap₂ both_fitted (places-all initials room L is_room l.i l.initial' l.invariant.1 passed) (places-all commits room L is_room l.i l.committed l.invariant.2 passed)
 
 pub amount-requires : goal.amount-requires
 amount-requires c = omega (arith, small c.before)

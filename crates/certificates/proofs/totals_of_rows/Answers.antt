@@ -20,13 +20,13 @@ use Rattle.certificates.proofs.totals_of_rows.Invariants.{BothAdded}
 use Rattle.certificates.proofs.totals_of_rows.Goals as goal
 
 abbrev Start : Type 0
-Start = place.Start tie.the-claims tie.handed_pre tie.handed_post goal.the-invariant-loop-at goal.the-decreases-loop-at
+Start = place.Start tie.the-claims tie.handed_pre tie.handed_post goal.the-invariant-loop-at goal.the-decreases-loop-at tie.handed_clauses
 
 abbrev In-loop-at : Type 0
-In-loop-at = place.In-loop tie.the-claims tie.handed_pre tie.handed_post goal.the-invariant-loop-at goal.the-decreases-loop-at
+In-loop-at = place.In-loop tie.the-claims tie.handed_pre tie.handed_post goal.the-invariant-loop-at goal.the-decreases-loop-at tie.handed_clauses
 
 abbrev After-read_row-row : Type 0
-After-read_row-row = place.After-read_row tie.the-claims tie.handed_pre tie.handed_post goal.the-invariant-loop-at goal.the-decreases-loop-at
+After-read_row-row = place.After-read_row tie.the-claims tie.handed_pre tie.handed_post goal.the-invariant-loop-at goal.the-decreases-loop-at tie.handed_clauses
 
 pub loop-at-init : goal.loop-at-init
 loop-at-init c s e = start (header _ s e).from (rows_none (λ r. r.initial) c.nothing-initial.result (c.nothing-initial.ensures.value, c.nothing-initial.ensures.moved), rows_none (λ r. r.committed) c.nothing-committed.result (c.nothing-committed.ensures.value, c.nothing-committed.ensures.moved))
@@ -75,7 +75,7 @@ loop-at-preserved c s e =
     subst (λ at. Passed (bytes t.before.before.before.before.before.before) s.rows at (BothAdded c.plus-initial.result c.plus-committed.result)) (sym (end_is r.before.before.before.before.before))
     (advance (l.invariant s e) t.loop-at-test.true (ends r.before.before.before.before.before)
     (λ a. let read = r.read_row-row.ensures a.row a.later a.from in (
-      rows_next (λ r. r.initial) a.earlier a.row l.initial a.so_far.0 row.initial c.plus-initial.result read.initial (c.plus-initial.ensures.value, c.plus-initial.ensures.moved),
+      rows_next (λ r. r.initial) a.earlier a.row l.initial' a.so_far.0 row.initial c.plus-initial.result read.initial (c.plus-initial.ensures.value, c.plus-initial.ensures.moved),
       rows_next (λ r. r.committed) a.earlier a.row l.committed a.so_far.1 row.committed c.plus-committed.result read.committed (c.plus-committed.ensures.value, c.plus-committed.ensures.moved),
     )))
 

@@ -5,10 +5,10 @@ use mathlib.Core.Logic.{◌⊎◌, inl, inr}
 use mathlib.Core.List.{List}
 use mathlib.Core.Option.{none}
 use Prim.Native.Nat.{ℕ, ◌≤◌}
+use native.Mathlib.Omega.{arith}
 use lib.ListN.{length, get_or}
 use Rattle.rules.specs.Lists.{first}
 use Rattle.rules.specs.Frames.{take_snapshot, certify_ledger, prove_conservation, codes, operation_of}
-use Rattle.frame_reader.proofs.Codes.{otherwise}
 use Rattle.frame_reader.proofs.Sized.{alone}
 use Rattle.frame_reader.proofs.read_alone.Goals as goal
 
@@ -31,4 +31,7 @@ returns-in-11 c = let ((h, e), one) = c.requires in record { operation = sym ((a
 
 pub returns-in_default : goal.returns-in_default
 unfolding first codes
-returns-in_default c = let ((h, e), one) = c.requires in record { operation = sym ((alone h prove_conservation (e ∙ otherwise (otherwise one c.in-7.rest.0.1) c.in-7.rest.1) refl).fit c.if-bytes-ne1.false); parts = tt }
+returns-in_default c =
+    let ((h, e), one) = c.requires in
+    let last : c.args.code ≡ 13 = omega arith in
+    record { operation = sym ((alone h prove_conservation (e ∙ last) refl).fit c.if-bytes-ne1.false); parts = tt }

@@ -23,10 +23,10 @@ use Rattle.frame_reader.proofs.read_named.Tie as tie
 use Rattle.frame_reader.proofs.read_named.Goals as goal
 
 abbrev After-shared_slice_known-2-1 : Type 0
-After-shared_slice_known-2-1 = place.After-shared_slice_known2 tie.the-claims tie.handed_pre tie.handed_post
+After-shared_slice_known-2-1 = place.After-shared_slice_known2 tie.the-claims tie.handed_pre tie.handed_post tie.handed_clauses
 
 abbrev After-read_amount-amount : Type 0
-After-read_amount-amount = place.After-read_amount tie.the-claims tie.handed_pre tie.handed_post
+After-read_amount-amount = place.After-read_amount tie.the-claims tie.handed_pre tie.handed_post tie.handed_clauses
 
 misfit : (bs : List ℕ) (code : ℕ) → 1 ≤ length bs → get_or bs 0 0 ≡ code → 1 ≤ code → code ≤ 4 → (length bs ≡ name_start + get_or bs 1 0 + 8 → ⊥) → operation_of bs ≡ none
 unfolding first codes
@@ -68,19 +68,19 @@ module _ (c : After-read_amount-amount) where
 
 pub returns-in-1 : goal.returns-in-1
 unfolding first codes
-returns-in-1 c = fit c.before.before 1 c.in-1.is ensure refl
+returns-in-1 c = let both = fit c.before.before 1 c.in-1.is ensure refl in record { operation = both.0; parts = both.1 }
 
 pub returns-in-2 : goal.returns-in-2
 unfolding first codes
-returns-in-2 c = fit c.before.before 2 c.in-2.is top_up refl
+returns-in-2 c = let both = fit c.before.before 2 c.in-2.is top_up refl in record { operation = both.0; parts = both.1 }
 
 pub returns-in-3 : goal.returns-in-3
 unfolding first codes
-returns-in-3 c = fit c.before.before 3 c.in-3.is limit refl
+returns-in-3 c = let both = fit c.before.before 3 c.in-3.is limit refl in record { operation = both.0; parts = both.1 }
 
 pub returns-in_default : goal.returns-in_default
 unfolding first codes
-returns-in_default c = fit c.before.before 4 (omega arith) reserve refl
+returns-in_default c = let both = fit c.before.before 4 (omega arith) reserve refl in record { operation = both.0; parts = both.1 }
 
 pub overflow_cast-end : goal.overflow_cast-end
 overflow_cast-end c = record { fits = omega (arith, byte c.before) }

@@ -8,7 +8,6 @@ use mathlib.Core.Option.{none}
 use Prim.Native.Nat.{ℕ, ◌≤◌}
 use native.Mathlib.Omega.{arith}
 use borrow.Author.Rules.{rules}
-use borrow.Author.Tests.{not-true, not-false}
 use lib.ListN.{length, drop, get_or}
 use Rattle.rules.specs.SnapshotsMigrationCertificates.{snapshot_of_bytes}
 use Rattle.rules.specs.Frames.{migrate_to, certify, operation_of}
@@ -21,7 +20,7 @@ use Rattle.frame_reader.proofs.read_word_and_snapshot.Tie as tie
 use Rattle.frame_reader.proofs.read_word_and_snapshot.Goals as goal
 
 abbrev Else-not-is_snapshot : Type 0
-Else-not-is_snapshot = place.Else2 tie.the-claims tie.handed_pre tie.handed_post
+Else-not-is_snapshot = place.Else2 tie.the-claims tie.handed_pre tie.handed_post tie.handed_clauses
 
 -- too few bytes, or no snapshot behind the word
 misfit : (bs : List ℕ) {code : ℕ} → 1 ≤ length bs → get_or bs 0 0 ≡ code → (code ≡ 10) ⊎ (code ≡ 12) → (word_end ≤ length bs → is_read (snapshot_of_bytes (drop word_end bs)) ≡ false) → operation_of bs ≡ none
@@ -34,20 +33,26 @@ returns-then-bytes-lt-WORD_END c = let ((h, e), one) = c.requires in record { op
 pub returns-then-not-is_snapshot : goal.returns-then-not-is_snapshot
 returns-then-not-is_snapshot c =
     let ((h, e), one) = c.requires in
-    let test = c.is_snapshot in record { operation = sym (misfit _ h e one (λ _. tested c.args.bytes.now word_end test.ensures ∙ not-true test.result c.if-not-is_snapshot.true-raw)); parts = tt }
+    let test = c.is_snapshot in record { operation = sym (misfit _ h e one (λ _. tested c.args.bytes.now word_end test.ensures ∙ c.if-not-is_snapshot.true)); parts = tt }
 
 stands-there : (c : Else-not-is_snapshot) → StandsFrom word_end c.args.bytes.now
 stands-there c =
     let bytes = c.args.bytes.now in
     let test = c.is_snapshot in
-    stands bytes word_end (omega arith) (tested bytes word_end test.ensures ∙ not-false test.result c.if-not-is_snapshot.false-raw)
+    stands bytes word_end (omega arith) (tested bytes word_end test.ensures ∙ c.if-not-is_snapshot.false)
 
 pub returns-then-code-eq10 : goal.returns-then-code-eq10
 returns-then-code-eq10 c =
-    let ((h, e), one) = c.requires in record { operation = ap (λ fence. supplied (migrate_to fence) (snapshot_of_bytes (drop word_end c.args.bytes.now))) c.read8.ensures
-          ∙ sym ((migrating h (e ∙ c.if-code-eq10.true)).long (omega arith)); parts = stands-there c.before.before.before.before }
+    let ((h, e), one) = c.requires in record {
+      operation = ap (λ fence. supplied (migrate_to fence) (snapshot_of_bytes (drop word_end c.args.bytes.now))) c.read8.ensures
+          ∙ sym ((migrating h (e ∙ c.if-code-eq10.true)).long (omega arith));
+      parts = stands-there c.before.before.before.before;
+    }
 
 pub returns : goal.returns
 returns c =
-    let ((h, e), one) = c.requires in record { operation = ap (λ since. supplied (certify since) (snapshot_of_bytes (drop word_end c.args.bytes.now))) c.read_amount.ensures
-          ∙ sym ((certifying h (e ∙ otherwise one c.if-code-eq10.false)).long (omega arith)); parts = stands-there c.before.before.before.before }
+    let ((h, e), one) = c.requires in record {
+      operation = ap (λ since. supplied (certify since) (snapshot_of_bytes (drop word_end c.args.bytes.now))) c.read_amount.ensures
+          ∙ sym ((certifying h (e ∙ otherwise one c.if-code-eq10.false)).long (omega arith));
+      parts = stands-there c.before.before.before.before;
+    }
