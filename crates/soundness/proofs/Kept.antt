@@ -4,7 +4,7 @@ use mathlib.Core.Bool.{false}
 use mathlib.Core.Option.{Option, none, some}
 use Prim.Native.Nat.{ℕ, ◌≤◌}
 use lib.ListN.{length}
-use Rattle.rules.specs.RoomAndSoundLedger.{M, Account, Seat as RulesSeat, seat, Place as RulesPlace, is_vacant, committed_of, AddsUp, longest_name}
+use Rattle.rules.specs.RoomAndSoundLedger.{M, Account, Seat as RulesSeat, Place as RulesPlace, is_vacant, committed_of, AddsUp, longest_name}
 use Rattle.names.specs.Names.{spelled, stored}
 use Rattle.names.proofs.Storing.{stored-spelled, stored-is-stored}
 use Rattle.moves.specs.Moves.{account_of, meaning, kept, kept_seat}

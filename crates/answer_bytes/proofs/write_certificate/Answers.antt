@@ -1,7 +1,6 @@
 -- `answer_bytes::write_certificate`: `opening`, and `value-behind` of Parts.antt for each further part in turn. With so many parts search does not find their
 -- lengths: the making of a part gives each.
 use mathlib.Core.Path.{◌∙◌}
-use borrow.Author.Rules.{rules}
 use Rattle.answer_bytes.proofs.Parts.{byte-is, value-behind}
 use Rattle.answer_bytes.proofs.Opening.{opening}
 use Rattle.answer_bytes.proofs.write_certificate.Goals as goal

@@ -1,6 +1,5 @@
 -- `answer_bytes::write_number`: `number-written` of Parts.antt at the part that holds the number.
 use Rattle.answer_bytes.proofs.Parts.{number-written}
-use borrow.Author.Rules.{rules}
 use Rattle.answer_bytes.proofs.write_number.Goals as goal
 
 pub returns : goal.returns

@@ -1,6 +1,5 @@
 -- `answer_bytes::write_proof`: `opening`, and `value-behind` of Parts.antt for both totals and the last byte.
 use mathlib.Core.Path.{◌∙◌}
-use borrow.Author.Rules.{rules}
 use Rattle.answer_bytes.proofs.Parts.{byte-is, value-behind}
 use Rattle.answer_bytes.proofs.Opening.{opening}
 use Rattle.answer_bytes.proofs.write_proof.Goals as goal

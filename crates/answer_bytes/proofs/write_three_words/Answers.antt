@@ -1,7 +1,6 @@
 -- `answer_bytes::write_three_words`: `number-written`, and `value-behind` three times (Parts.antt). With so many parts search does not find their lengths: the
 -- making of a part gives each.
 use Rattle.answer_bytes.proofs.Parts.{number-written, value-behind}
-use borrow.Author.Rules.{rules}
 use Rattle.answer_bytes.proofs.write_three_words.Goals as goal
 
 pub returns : goal.returns

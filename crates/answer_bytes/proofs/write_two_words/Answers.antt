@@ -1,6 +1,5 @@
 -- `answer_bytes::write_two_words`: `number-written`, and `value-behind` twice (Parts.antt).
 use Rattle.answer_bytes.proofs.Parts.{number-written, value-behind}
-use borrow.Author.Rules.{rules}
 use Rattle.answer_bytes.proofs.write_two_words.Goals as goal
 
 pub returns : goal.returns

@@ -1,6 +1,5 @@
 -- `answer_bytes::write_word`: `number-written`, and `value-behind` it (Parts.antt).
 use Rattle.answer_bytes.proofs.Parts.{number-written, value-behind}
-use borrow.Author.Rules.{rules}
 use Rattle.answer_bytes.proofs.write_word.Goals as goal
 
 pub returns : goal.returns

@@ -1,9 +1,7 @@
 -- `lookup::find` meets its contract. The invariant: no place passed spells the name.
 use mathlib.Core.Path.{◌≡◌, sym, ap, ◌∙◌}
 use mathlib.Core.Bool.{false}
-use Prim.Native.Nat.{ℕ, ◌-◌, ◌≤◌, ◌<◌}
 use native.Mathlib.Omega.{arith}
-use borrow.Author.Rules.{rules}
 use borrow.Author.Count.{below_none, below_more}
 use lib.ListN.{get_or}
 use Rattle.rules.specs.RoomAndSoundLedger.{same}

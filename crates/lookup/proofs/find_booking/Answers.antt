@@ -1,8 +1,7 @@
 -- `lookup::find_booking` meets its contract. The invariant: low and high bracket the id among the live bookings.
 use mathlib.Core.Path.{◌≡◌, sym, ap, ◌∙◌}
-use Prim.Native.Nat.{ℕ, ◌+◌, ◌*◌, ◌-◌, ◌/◌, ◌<◌}
+use Prim.Native.Nat.{ℕ, ◌+◌, ◌*◌, ◌/◌, ◌<◌}
 use native.Mathlib.Omega.{arith}
-use borrow.Author.Rules.{rules}
 use borrow.Author.Tests.{eq-eqb}
 use lib.ListN.{length, get_or}
 use Rattle.records.specs.Layout.{booking_size}
@@ -11,7 +10,7 @@ use Rattle.records.specs.Records.{sizes_of, booking_of}
 use Rattle.room.specs.Contents.{contents_of, base_of, live_bookings, empty_booking}
 use Rattle.room.specs.declared.Found.TheVariants.{At, Absent}
 use Rattle.room.proofs.InRoom.{live-bookings, loaded-booking}
-use Rattle.lookup.proofs.Halving.{Bracket, whole, raise-low, lower_high, hit, miss}
+use Rattle.lookup.proofs.Halving.{whole, raise-low, lower_high, hit, miss}
 use Rattle.lookup.proofs.Bookings.{ids-divide, booking-only}
 use Rattle.lookup.proofs.find_booking.Lts as place
 use Rattle.lookup.proofs.find_booking.Tie as tie

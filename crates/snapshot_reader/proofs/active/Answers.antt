@@ -1,7 +1,6 @@
 -- `snapshot_reader::active` meets its contract: bytes that are a snapshot have a whole head, and its second number is the count (Header).
 use mathlib.Core.Path.{◌∙◌, sym}
 use native.Mathlib.Omega.{arith}
-use borrow.Author.Rules.{rules}
 use Rattle.snapshot_reader.proofs.Header.{header, is-long}
 use Rattle.snapshot_reader.proofs.active.Goals as goal
 

@@ -5,7 +5,6 @@ use mathlib.Core.Bool.{Bool, true, false}
 use mathlib.Core.List.{List}
 use Prim.Native.Nat.{ℕ, suc, ◌-◌, ◌≤◌}
 use native.Mathlib.Omega.{arith}
-use borrow.Author.Rules.{rules}
 use lib.ListN.{length, drop}
 use Rattle.rules.specs.SnapshotsMigrationCertificates.{read_row, read_rows, snapshot_of_bytes}
 use Rattle.big_endian.specs.Layout.{snapshot_header}

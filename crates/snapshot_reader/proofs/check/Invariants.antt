@@ -1,19 +1,11 @@
 -- `snapshot_reader::check` meets its contract. The loop's invariant: what the bytes come to is what those from here on do as the rows that are left, after
 -- rows of which the flag tells whether one had a long name.
-use mathlib.Core.Path.{◌≡◌, sym, ◌∙◌, ap, subst}
-use mathlib.Core.Bool.{Bool, true, false}
-use mathlib.Core.List.{List}
-use Prim.Native.Nat.{ℕ, suc, ◌-◌, ◌≤◌}
-use native.Mathlib.Omega.{arith}
-use borrow.Author.Rules.{rules}
+use mathlib.Core.Path.{◌≡◌}
+use Prim.Native.Nat.{◌≤◌}
 use lib.ListN.{length, drop}
-use Rattle.rules.specs.SnapshotsMigrationCertificates.{read_row, read_rows, snapshot_of_bytes}
-use Rattle.big_endian.specs.Layout.{snapshot_header}
-use Rattle.snapshot_reader.specs.Standing.{checked_as, RowEnds}
-use Rattle.snapshot_reader.specs.declared.RowEnd.{RowEnd}
-use Rattle.snapshot_reader.specs.declared.RowEnd.TheVariants.{At, Missing}
-use Rattle.snapshot_reader.proofs.Header.{count_in}
-use Rattle.snapshot_reader.proofs.Passing.{verdict, checked_rows, Past, refused, by_rows, passed, broken, left_over, ended}
+use Rattle.rules.specs.SnapshotsMigrationCertificates.{read_rows, snapshot_of_bytes}
+use Rattle.snapshot_reader.specs.Standing.{checked_as}
+use Rattle.snapshot_reader.proofs.Passing.{checked_rows}
 use Rattle.snapshot_reader.proofs.check.Given as goal
 
 abbrev pub invariant-loop-left : goal.invariant-loop-left

@@ -1,7 +1,6 @@
 -- `snapshot_reader::count` meets its contract: the head's third number is how many rows follow (Header).
 use mathlib.Core.Path.{◌∙◌, sym}
 use native.Mathlib.Omega.{arith}
-use borrow.Author.Rules.{rules}
 use Rattle.snapshot_reader.proofs.Header.{header, is-long}
 use Rattle.snapshot_reader.proofs.count.Goals as goal
 

@@ -1,16 +1,14 @@
 -- `snapshot_reader::has_long_name` meets its contract. The invariant: the rows to come decide; a row's first byte is its name's length, so it decides a turn.
 use mathlib.Core.Path.{◌≡◌, refl, sym, ◌∙◌}
 use mathlib.Core.Bool.{true, false}
-use Prim.Native.Nat.{◌-◌}
 use native.Mathlib.Omega.{arith}
-use borrow.Author.Rules.{rules}
 use borrow.Author.Tests.{lt-ltb, le-ltb}
 use lib.ListN.{length}
 use Rattle.rules.specs.Lists.{any}
 use Rattle.rules.specs.AccountRules.{is_too_long}
 use Rattle.rules.specs.SnapshotsMigrationCertificates.{has_long_name}
 use Rattle.rules.specs.RoomAndSoundLedger.{longest_name}
-use Rattle.snapshot_reader.specs.Standing.{OfSnapshot, RowStands, Passed}
+use Rattle.snapshot_reader.specs.Standing.{RowStands}
 use Rattle.snapshot_reader.proofs.Rows.{first-row, start, at_row, stands, Further, forward, advance, finished}
 use Rattle.snapshot_reader.proofs.Header.{header}
 use Rattle.snapshot_reader.proofs.has_long_name.Lts as place

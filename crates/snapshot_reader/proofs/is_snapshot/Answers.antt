@@ -1,6 +1,5 @@
 -- `snapshot_reader::is_snapshot` meets its contract: only where the answer of `check` is 23 are the bytes no snapshot (Checking).
 use mathlib.Core.Path.{◌≡◌, sym, ap}
-use borrow.Author.Rules.{rules}
 use Rattle.snapshot_reader.specs.Standing.{is_read}
 use Rattle.snapshot_reader.specs.declared.Checked.{Checked}
 use Rattle.snapshot_reader.specs.declared.Checked.TheVariants.{Passes, NameTooLong, BadFrame}

@@ -1,6 +1,5 @@
 -- `snapshot_reader::name_end` meets its contract: a row's first byte is its name's length, and that the row stands there keeps the sums in range (Rows).
 use native.Mathlib.Omega.{arith}
-use borrow.Author.Rules.{rules}
 use Rattle.snapshot_reader.proofs.Rows.{FirstRow, first-row, ends_name}
 use Rattle.snapshot_reader.proofs.name_end.Lts as place
 use Rattle.snapshot_reader.proofs.name_end.Tie as tie

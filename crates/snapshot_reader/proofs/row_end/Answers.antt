@@ -4,7 +4,6 @@ use mathlib.Core.Path.{refl, sym, subst, ◌∙◌}
 use mathlib.Core.List.{List}
 use Prim.Native.Nat.{ℕ, ◌+◌, ◌-◌, ◌≤◌, ◌<◌}
 use native.Mathlib.Omega.{arith}
-use borrow.Author.Rules.{rules}
 use lib.ListN.{length, drop, length-drop}
 use Rattle.rules.specs.SnapshotsMigrationCertificates.{read_row}
 use Rattle.snapshot_reader.specs.Standing.{RowEnds}

@@ -1,7 +1,6 @@
 -- `snapshot_reader::version` meets its contract: the head's first number is the version (Header).
 use mathlib.Core.Path.{◌∙◌, sym}
 use native.Mathlib.Omega.{arith}
-use borrow.Author.Rules.{rules}
 use Rattle.snapshot_reader.proofs.Header.{header, is-long}
 use Rattle.snapshot_reader.proofs.version.Goals as goal
 

@@ -1,7 +1,6 @@
 -- `soundness::amounts_sound` meets its contract: each test is one clause of a sound seat, by the laws of Seats; past the flag's test the last comparison
 -- decides.
 use native.Mathlib.Omega.{arith}
-use borrow.Author.Rules.{rules}
 use Rattle.rules.specs.RoomAndSoundLedger.{M}
 use Rattle.moves.proofs.Cases.{AmountsAddUp}
 use Rattle.room.specs.Seats.{seat_of_place}

@@ -1,19 +1,10 @@
 -- `soundness::bookings_sound` meets its contract. The invariant: the bookings as a whole take what was reserved exactly if those from j on take
 -- what is left.
-use mathlib.Core.Path.{◌≡◌, refl, sym, ap, ◌∙◌, subst}
-use mathlib.Core.List.{List, [], ◌∷◌}
-use Prim.Native.Nat.{◌+◌, ◌-◌, ◌≤◌, ◌<◌}
-use native.Mathlib.Omega.{arith}
-use borrow.Author.Rules.{rules}
-use lib.ListN.{length, drop, length-set, drop_of_length-le}
-use Rattle.records.specs.Layout.{booking_size}
-use Rattle.records.specs.declared.Booking.{Booking}
-use Rattle.records.proofs.Rows.{table-length}
-use Rattle.records.specs.Records.{booking_of, bookings}
-use Rattle.soundness.specs.Steps.{Follows, Booked}
-use Rattle.soundness.proofs.Deciding.{refused, accepted, leave, leave_none}
-use Rattle.soundness.proofs.Tables.{table-from}
-use Rattle.soundness.proofs.Bookings.{first-follows, first-within, booked-rest, booked-first, booked-none, none-booked}
+use mathlib.Core.Path.{◌≡◌}
+use Prim.Native.Nat.{◌-◌, ◌≤◌}
+use lib.ListN.{length, drop}
+use Rattle.records.specs.Records.{bookings}
+use Rattle.soundness.specs.Steps.{Booked}
 use Rattle.soundness.proofs.bookings_sound.Given as goal
 
 abbrev pub invariant-loop-j : goal.invariant-loop-j

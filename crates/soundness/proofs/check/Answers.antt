@@ -1,7 +1,6 @@
 -- `soundness::check` meets its contract: each test is a field of the facts, carried over to what was loaded; the tables are asked last.
 use mathlib.Core.Path.{sym, subst}
 use native.Mathlib.Omega.{arith}
-use borrow.Author.Rules.{rules}
 use lib.ListN.{length}
 use Rattle.soundness.specs.Facts.{SizesSound, HeadSound}
 use Rattle.soundness.proofs.Deciding.{refuse, refused, accepted, by_answer}

@@ -1,11 +1,8 @@
 -- `soundness::clear` meets its contract: the invariant is that the bytes passed are zeros, and those from i on as they were.
-use mathlib.Core.Path.{◌≡◌, refl, ap, ◌∙◌}
-use mathlib.Core.List.{[], ◌++◌, append-nil}
-use Prim.Native.Nat.{ℕ, ◌-◌, ◌≤◌}
-use native.Mathlib.Omega.{arith}
-use borrow.Author.Fill.{fill_none, fill_more}
-use borrow.Author.Rules.{rules}
-use lib.ListN.{length, drop, set, replicate, length-set, drop_of_length-le}
+use mathlib.Core.Path.{◌≡◌}
+use mathlib.Core.List.{◌++◌}
+use Prim.Native.Nat.{◌-◌, ◌≤◌}
+use lib.ListN.{length, drop, replicate}
 use Rattle.soundness.proofs.clear.Given as goal
 
 abbrev pub invariant-loop-i : goal.invariant-loop-i

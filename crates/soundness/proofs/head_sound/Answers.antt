@@ -1,6 +1,5 @@
 -- `soundness::head_sound` meets its contract: two tests refuse a clause each, and past them the version decides.
 use native.Mathlib.Omega.{arith}
-use borrow.Author.Rules.{rules}
 use Rattle.rules.specs.RoomAndSoundLedger.{M}
 use Rattle.soundness.proofs.Deciding.{refuse, refused, accepted, by_answer}
 use Rattle.soundness.proofs.head_sound.Goals as goal

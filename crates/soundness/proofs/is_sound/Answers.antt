@@ -1,5 +1,4 @@
 -- `soundness::is_sound` meets its contract: what `check` decides of the records is, for a slice of bytes, whether it is the room of a sound ledger.
-use borrow.Author.Rules.{rules}
 use Rattle.numbers.proofs.Bytes.{all-bytes}
 use Rattle.soundness.proofs.Sound.{decides-soundness}
 use Rattle.soundness.proofs.is_sound.Goals as goal

@@ -1,9 +1,7 @@
 -- `soundness::is_zero` meets its contract: the invariant is that what is joined is zero just where every byte passed is (Joined).
 use Prim.Native.Nat.{◌-◌, ◌≤◌}
-use native.Mathlib.Omega.{arith}
-use borrow.Author.Rules.{rules}
 use lib.ListN.{length}
-use Rattle.soundness.proofs.Joined.{Joins, joins-none, joins-more, joins-all}
+use Rattle.soundness.proofs.Joined.{Joins}
 use Rattle.soundness.proofs.is_zero.Given as goal
 
 abbrev pub invariant-loop-i : goal.invariant-loop-i

@@ -3,7 +3,6 @@
 use mathlib.Core.Path.{◌≡◌, refl, sym, ap, ◌∙◌, subst}
 use mathlib.Core.List.{[]}
 use native.Mathlib.Omega.{arith}
-use borrow.Author.Rules.{rules}
 use lib.ListN.{length}
 use Rattle.rules.specs.AnswerNumbers.{UnsoundLedger, done, reply_of}
 use Rattle.records.specs.Layout.{ledger_head_offset, ledger_head_size}

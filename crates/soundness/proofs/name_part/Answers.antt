@@ -2,7 +2,6 @@
 use Prim.Native.Nat.{◌+◌, ◌*◌}
 use native.Mathlib.Omega.{arith}
 use Rattle.records.specs.Layout.{name_bytes_start}
-use borrow.Author.Rules.{rules}
 use Rattle.records.proofs.Rows.{span, row-length}
 use Rattle.soundness.proofs.Standing.{part-stands}
 use Rattle.soundness.proofs.name_part.Goals as goal

@@ -1,12 +1,12 @@
 -- `soundness::name_sound` meets its contract: the invariant is that the bytes past the length are zero in the parts passed. A part is zero from a byte on
 -- just where its little-endian number is that small (ClearBytes).
-use mathlib.Core.Path.{◌≡◌, sym, ap, ap₂, ◌∙◌, subst}
+use mathlib.Core.Path.{sym, ap, ap₂, ◌∙◌, subst}
 use mathlib.Core.Logic.{⊎_elim}
 use mathlib.Core.List.{List}
-use Prim.Native.Nat.{ℕ, ◌-◌, ◌*◌, ◌^◌, ◌≤◌, ◌<◌}
+use Prim.Native.Nat.{ℕ, ◌-◌, ◌*◌, ◌^◌, ◌<◌}
 use native.Mathlib.Omega.{arith}
 use borrow.Author.Rules.{rules}
-use lib.ListN.{get_or, get_or-eq_default}
+use lib.ListN.{get_or-eq_default}
 use Rattle.rules.specs.Lists.{All}
 use Rattle.rules.specs.RoomAndSoundLedger.{IsByte, longest_name}
 use Rattle.rules.proofs.Tests.{less-or-not}

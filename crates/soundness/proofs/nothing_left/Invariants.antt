@@ -1,8 +1,6 @@
 -- `soundness::nothing_left` meets its contract: the invariant is that what is joined is zero just where every number passed is (Joined).
 use Prim.Native.Nat.{◌-◌, ◌≤◌}
-use native.Mathlib.Omega.{arith}
-use borrow.Author.Rules.{rules}
-use Rattle.soundness.proofs.Joined.{Joins, joins-none, joins-more, joins-all}
+use Rattle.soundness.proofs.Joined.{Joins}
 use Rattle.soundness.proofs.nothing_left.Given as goal
 
 abbrev pub invariant-loop-i : goal.invariant-loop-i

@@ -3,8 +3,7 @@
 use mathlib.Core.Path.{◌≡◌, refl, sym, ap, ◌∙◌, subst}
 use Prim.Native.Nat.{◌+◌, ◌-◌, ◌≤◌}
 use native.Mathlib.Omega.{arith}
-use borrow.Author.Rules.{rules}
-use lib.ListN.{length, take, set, length-set}
+use lib.ListN.{take, set, length-set}
 use Rattle.rules.specs.Lists.{sum, All, Pairwise}
 use Rattle.rules.proofs.Tests.{true-false}
 use Rattle.rules.specs.RoomAndSoundLedger.{is_vacant}

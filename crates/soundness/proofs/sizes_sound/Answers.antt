@@ -1,6 +1,5 @@
 -- `soundness::sizes_sound` meets its contract: each test refuses a clause, and past them the size decides; the ranges keep its sum small.
 use native.Mathlib.Omega.{arith}
-use borrow.Author.Rules.{rules}
 use Rattle.rules.specs.RoomAndSoundLedger.{InRange, most_names, most_reservations}
 use Rattle.soundness.proofs.Deciding.{refuse, refused, accepted, by_equal}
 use Rattle.soundness.proofs.sizes_sound.Lts as place

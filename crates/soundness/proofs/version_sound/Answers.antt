@@ -2,7 +2,6 @@
 -- of the clause.
 use mathlib.Core.Path.{sym, ◌∙◌}
 use mathlib.Core.Logic.{inl, inr, ⊎_elim}
-use borrow.Author.Rules.{rules}
 use borrow.Author.Tests.{not-true, not-false}
 use Rattle.rules.proofs.Tests.{true-false}
 use Rattle.soundness.proofs.Deciding.{accept, refuse, by-unequal}

@@ -3,7 +3,6 @@
 use Prim.Native.Nat.{◌+◌}
 use mathlib.Core.Path.{refl, ap}
 use native.Mathlib.Omega.{arith}
-use borrow.Author.Rules.{rules}
 use mathlib.Core.List.{List}
 use lib.ListN.{set}
 use Rattle.records.specs.declared.Booking.{Booking}

@@ -1,10 +1,8 @@
 -- `tables::close_gap` meets its contract: the bytes before k are those that stood a booking further.
-use mathlib.Core.Path.{◌≡◌, refl, ap, ◌∙◌}
-use Prim.Native.Nat.{◌+◌, ◌-◌, ◌≤◌}
+use mathlib.Core.Path.{refl, ap, ◌∙◌}
+use Prim.Native.Nat.{◌+◌}
 use native.Mathlib.Omega.{arith}
-use borrow.Author.Rules.{rules}
-use lib.ListN.{length, get_or, set, drop, length-set}
-use lib.Seq.{paste}
+use lib.ListN.{get_or, set, length-set}
 use Rattle.records.specs.Layout.{booking_size}
 use Rattle.tables.proofs.Gap.{nearer-turn, nearer-all}
 use Rattle.tables.proofs.close_gap.Goals as goal

@@ -1,12 +1,9 @@
 -- `tables::close_gap` meets its contract: the bytes before k are those that stood a booking further.
-use mathlib.Core.Path.{◌≡◌, refl, ap, ◌∙◌}
-use Prim.Native.Nat.{◌+◌, ◌-◌, ◌≤◌}
-use native.Mathlib.Omega.{arith}
-use borrow.Author.Rules.{rules}
-use lib.ListN.{length, get_or, set, drop, length-set}
+use mathlib.Core.Path.{◌≡◌}
+use Prim.Native.Nat.{◌-◌, ◌≤◌}
+use lib.ListN.{length, drop}
 use lib.Seq.{paste}
 use Rattle.records.specs.Layout.{booking_size}
-use Rattle.tables.proofs.Gap.{nearer-turn, nearer-all}
 use Rattle.tables.proofs.close_gap.Given as goal
 
 abbrev pub invariant-loop-k : goal.invariant-loop-k

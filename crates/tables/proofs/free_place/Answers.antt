@@ -1,7 +1,6 @@
 -- `tables::free_place` meets its contract: the last place, which still stands where it stood, is emptied.
 use Prim.Native.Nat.{◌-◌, ◌≤◌}
 use native.Mathlib.Omega.{arith}
-use borrow.Author.Rules.{rules}
 use lib.ListN.{length}
 use Rattle.room.specs.Contents.{contents_of, closed, renumbered, lowered, empty_place, freed_place}
 use Rattle.tables.specs.Steps.{Becomes, on_places, moved_down}

@@ -2,7 +2,6 @@
 use Prim.Native.Nat.{◌+◌, ◌≤◌}
 use mathlib.Core.Path.{sym, ap, ap₂, subst}
 use native.Mathlib.Omega.{arith}
-use borrow.Author.Rules.{rules}
 use lib.ListN.{length, take}
 use Rattle.rules.specs.Lists.{All}
 use Rattle.room.specs.Contents.{contents_of, opened, renumbered, raised, empty_place, inserted_place}

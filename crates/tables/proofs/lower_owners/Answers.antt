@@ -1,15 +1,13 @@
 -- `tables::lower_owners` meets its contract: the owners before j are renumbered.
-use Prim.Native.Nat.{◌+◌, ◌-◌, ◌≤◌}
+use Prim.Native.Nat.{◌+◌}
 use mathlib.Core.Path.{◌≡◌, refl, sym, ap, subst, ◌∙◌}
-use mathlib.Core.Logic.{⊎_elim}
 use native.Mathlib.Omega.{arith}
-use borrow.Author.Rules.{rules}
-use lib.ListN.{length, get_or}
+use lib.ListN.{get_or}
 use Rattle.numbers.proofs.Bytes.{all-bytes}
 use Rattle.room.specs.Contents.{contents_of, empty_booking, lowered, renumbered}
 use Rattle.tables.specs.Steps.{Becomes, on_bookings}
 use Rattle.tables.proofs.Moving.{renumbered-none, lowered-behind, lowered-up-to}
-use Rattle.tables.proofs.Stores.{SizedBy, sized-by, owner-fits, owner-read, owner-stored, owner-kept}
+use Rattle.tables.proofs.Stores.{sized-by, owner-fits, owner-read, owner-stored, owner-kept}
 use Rattle.tables.proofs.lower_owners.Lts as place
 use Rattle.tables.proofs.lower_owners.Tie as tie
 use Rattle.tables.proofs.lower_owners.Goals as goal
@@ -48,14 +46,14 @@ loop-j-preserved c =
       omega arith,
       c.loop-j.invariant.1,
       elim c.if-i-owner.branch [
-        then-i-owner w ↦
-          subst (Becomes (on_bookings (renumbered f (j + 1))) room) (sym w.room-is)
-          (owner-stored room c.loop-j.room f j inv empty_booking (omega arith) c.args.base c.requires.1 w.store_booking.new.room w.with_owner.result c.requires.0
-          (w.store_booking.ensures.stored, w.store_booking.ensures.fits)
-          (w.with_owner.ensures ∙ sym (lowered-behind i b w.if-i-owner.true) ∙ ap f (loaded c.before)))
-      | else-i-owner w ↦
-          subst (Becomes (on_bookings (renumbered f (j + 1))) room) (sym w.room-is)
-          (owner-kept room c.loop-j.room f j inv empty_booking (omega arith) (rw loaded at (lowered-up-to i b w.if-i-owner.false)))
+        | then-i-owner w ↦
+            subst (Becomes (on_bookings (renumbered f (j + 1))) room) (sym w.room-is)
+            (owner-stored room c.loop-j.room f j inv empty_booking (omega arith) c.args.base c.requires.1 w.store_booking.new.room w.with_owner.result c.requires.0
+            (w.store_booking.ensures.stored, w.store_booking.ensures.fits)
+            (w.with_owner.ensures ∙ sym (lowered-behind i b w.if-i-owner.true) ∙ ap f (loaded c.before)))
+        | else-i-owner w ↦
+            subst (Becomes (on_bookings (renumbered f (j + 1))) room) (sym w.room-is)
+            (owner-kept room c.loop-j.room f j inv empty_booking (omega arith) (rw loaded at (lowered-up-to i b w.if-i-owner.false)))
       ],
     )
 

@@ -1,15 +1,9 @@
 -- `tables::lower_owners` meets its contract: the owners before j are renumbered.
-use Prim.Native.Nat.{◌+◌, ◌-◌, ◌≤◌}
-use mathlib.Core.Path.{◌≡◌, refl, sym, ap, subst, ◌∙◌}
-use mathlib.Core.Logic.{⊎_elim}
-use native.Mathlib.Omega.{arith}
-use borrow.Author.Rules.{rules}
-use lib.ListN.{length, get_or}
-use Rattle.numbers.proofs.Bytes.{all-bytes}
-use Rattle.room.specs.Contents.{contents_of, empty_booking, lowered, renumbered}
+use Prim.Native.Nat.{◌-◌, ◌≤◌}
+use lib.ListN.{length}
+use Rattle.room.specs.Contents.{contents_of, lowered, renumbered}
 use Rattle.tables.specs.Steps.{Becomes, on_bookings}
-use Rattle.tables.proofs.Moving.{renumbered-none, lowered-behind, lowered-up-to}
-use Rattle.tables.proofs.Stores.{SizedBy, sized-by, owner-fits, owner-read, owner-stored, owner-kept}
+use Rattle.tables.proofs.Stores.{SizedBy}
 use Rattle.tables.proofs.lower_owners.Given as goal
 
 abbrev pub invariant-loop-j : goal.invariant-loop-j

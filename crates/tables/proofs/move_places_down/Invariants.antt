@@ -1,13 +1,9 @@
 -- `tables::move_places_down` meets its contract: the places moved so far are those before j.
-use Prim.Native.Nat.{◌+◌, ◌-◌, ◌≤◌, ◌<◌}
-use mathlib.Core.Path.{◌≡◌, refl, ap, subst}
-use native.Mathlib.Omega.{arith}
-use borrow.Author.Rules.{rules}
+use Prim.Native.Nat.{◌-◌, ◌≤◌, ◌<◌}
 use lib.ListN.{length}
 use Rattle.room.specs.Contents.{contents_of, empty_place}
 use Rattle.tables.specs.Steps.{Becomes, on_places, moved_down}
-use Rattle.tables.proofs.Moving.{down-none, down_turn}
-use Rattle.tables.proofs.Stores.{SizedBy, sized-by, places-length, place-moved}
+use Rattle.tables.proofs.Stores.{SizedBy}
 use Rattle.tables.proofs.move_places_down.Given as goal
 
 abbrev pub invariant-loop-j : goal.invariant-loop-j

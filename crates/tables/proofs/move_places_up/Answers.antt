@@ -1,13 +1,11 @@
 -- `tables::move_places_up` meets its contract: the places moved so far are those from j on.
-use Prim.Native.Nat.{◌-◌, ◌≤◌}
+use Prim.Native.Nat.{◌-◌}
 use mathlib.Core.Path.{◌≡◌, refl, ap, subst}
 use native.Mathlib.Omega.{arith}
-use borrow.Author.Rules.{rules}
-use lib.ListN.{length}
 use Rattle.room.specs.Contents.{contents_of, empty_place}
 use Rattle.tables.specs.Steps.{Becomes, on_places, moved_up}
 use Rattle.tables.proofs.Moving.{up_none, up_turn}
-use Rattle.tables.proofs.Stores.{SizedBy, sized-by, places-length, place-moved}
+use Rattle.tables.proofs.Stores.{sized-by, places-length, place-moved}
 use Rattle.tables.proofs.move_places_up.Goals as goal
 
 pub loop-j-init : goal.loop-j-init

@@ -1,5 +1,4 @@
 -- `tables::put_head` meets its contract: one store, which `head-put` reads as a change of the contents.
-use borrow.Author.Rules.{rules}
 use Rattle.tables.proofs.Stores.{head-put}
 use Rattle.tables.proofs.put_head.Goals as goal
 

@@ -1,7 +1,6 @@
 -- `tables::put_place` meets its contract: a place in use lies within the room, and `place-put` reads the one store as a change of the contents.
 use Prim.Native.Nat.{◌<◌}
 use native.Mathlib.Omega.{arith}
-use borrow.Author.Rules.{rules}
 use Rattle.room.specs.Contents.{contents_of}
 use Rattle.tables.proofs.Stores.{sized-by, place-put}
 use Rattle.tables.proofs.put_place.Lts as place

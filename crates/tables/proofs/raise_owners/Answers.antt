@@ -1,14 +1,12 @@
 -- `tables::raise_owners` meets its contract: the owners before j are renumbered.
-use Prim.Native.Nat.{◌+◌, ◌-◌, ◌≤◌}
+use Prim.Native.Nat.{◌+◌}
 use mathlib.Core.Path.{◌≡◌, refl, sym, ap, subst, ◌∙◌}
-use mathlib.Core.Logic.{⊎_elim}
 use native.Mathlib.Omega.{arith}
-use borrow.Author.Rules.{rules}
-use lib.ListN.{length, get_or}
+use lib.ListN.{get_or}
 use Rattle.room.specs.Contents.{contents_of, empty_booking, raised, renumbered}
 use Rattle.tables.specs.Steps.{Becomes, on_bookings, CanRise}
 use Rattle.tables.proofs.Moving.{all-taken, renumbered-none, raised-from, raised-before}
-use Rattle.tables.proofs.Stores.{SizedBy, sized-by, bookings-length, owner-read, owner-stored, owner-kept}
+use Rattle.tables.proofs.Stores.{sized-by, bookings-length, owner-read, owner-stored, owner-kept}
 use Rattle.tables.proofs.raise_owners.Lts as place
 use Rattle.tables.proofs.raise_owners.Tie as tie
 use Rattle.tables.proofs.raise_owners.Goals as goal
@@ -50,14 +48,14 @@ loop-j-preserved c =
       omega arith,
       c.loop-j.invariant.1,
       elim c.if-i-owner.branch [
-        then-i-owner w ↦
-          subst (Becomes (on_bookings (renumbered f (j + 1))) room) (sym w.room-is)
-          (owner-stored room c.loop-j.room f j inv empty_booking (omega arith) c.args.base c.requires.1 w.store_booking.new.room w.with_owner.result c.requires.0
-          (w.store_booking.ensures.stored, w.store_booking.ensures.fits)
-          (w.with_owner.ensures ∙ sym (raised-from i b w.if-i-owner.true) ∙ ap f (loaded c.before)))
-      | else-i-owner w ↦
-          subst (Becomes (on_bookings (renumbered f (j + 1))) room) (sym w.room-is)
-          (owner-kept room c.loop-j.room f j inv empty_booking (omega arith) (rw loaded at (raised-before i b w.if-i-owner.false)))
+        | then-i-owner w ↦
+            subst (Becomes (on_bookings (renumbered f (j + 1))) room) (sym w.room-is)
+            (owner-stored room c.loop-j.room f j inv empty_booking (omega arith) c.args.base c.requires.1 w.store_booking.new.room w.with_owner.result c.requires.0
+            (w.store_booking.ensures.stored, w.store_booking.ensures.fits)
+            (w.with_owner.ensures ∙ sym (raised-from i b w.if-i-owner.true) ∙ ap f (loaded c.before)))
+        | else-i-owner w ↦
+            subst (Becomes (on_bookings (renumbered f (j + 1))) room) (sym w.room-is)
+            (owner-kept room c.loop-j.room f j inv empty_booking (omega arith) (rw loaded at (raised-before i b w.if-i-owner.false)))
       ],
     )
 

@@ -1,14 +1,9 @@
 -- `tables::raise_owners` meets its contract: the owners before j are renumbered.
-use Prim.Native.Nat.{◌+◌, ◌-◌, ◌≤◌}
-use mathlib.Core.Path.{◌≡◌, refl, sym, ap, subst, ◌∙◌}
-use mathlib.Core.Logic.{⊎_elim}
-use native.Mathlib.Omega.{arith}
-use borrow.Author.Rules.{rules}
-use lib.ListN.{length, get_or}
-use Rattle.room.specs.Contents.{contents_of, empty_booking, raised, renumbered}
-use Rattle.tables.specs.Steps.{Becomes, on_bookings, CanRise}
-use Rattle.tables.proofs.Moving.{all-taken, renumbered-none, raised-from, raised-before}
-use Rattle.tables.proofs.Stores.{SizedBy, sized-by, bookings-length, owner-read, owner-stored, owner-kept}
+use Prim.Native.Nat.{◌-◌, ◌≤◌}
+use lib.ListN.{length}
+use Rattle.room.specs.Contents.{contents_of, raised, renumbered}
+use Rattle.tables.specs.Steps.{Becomes, on_bookings}
+use Rattle.tables.proofs.Stores.{SizedBy}
 use Rattle.tables.proofs.raise_owners.Given as goal
 
 abbrev pub invariant-loop-j : goal.invariant-loop-j

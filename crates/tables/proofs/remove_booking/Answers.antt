@@ -2,7 +2,6 @@
 use Prim.Native.Nat.{◌-◌, ◌≤◌}
 use mathlib.Core.Path.{refl, ap}
 use native.Mathlib.Omega.{arith}
-use borrow.Author.Rules.{rules}
 use lib.ListN.{length}
 use Rattle.room.specs.Contents.{contents_of, base_of, closed, empty_booking, removed_booking}
 use Rattle.tables.specs.Steps.{on_bookings, moved_down}
