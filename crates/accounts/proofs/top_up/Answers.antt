@@ -2,7 +2,6 @@
 use mathlib.Core.Path.{◌≡◌, sym, ◌∙◌, ap, subst}
 use mathlib.Core.List.{List, [], ◌∷◌}
 use native.Mathlib.Omega.{arith}
-use borrow.Author.Rules.{rules}
 use lib.IntN.{ℤ, pos}
 use Rattle.rules.specs.AnswerNumbers.{InvalidAmount, MissingTenant, OverflowOfTopUp}
 use Rattle.rules.specs.AccountRules.{done_with, top_up_rule}

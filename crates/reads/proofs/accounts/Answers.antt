@@ -1,12 +1,12 @@
 -- `reads::accounts` meets its contract. The invariant: the count is the number of accounts among the places passed.
 use mathlib.Core.Path.{◌≡◌, sym, ap}
-use Prim.Native.Nat.{◌+◌, ◌-◌, ◌≤◌}
+use Prim.Native.Nat.{◌+◌}
 use native.Mathlib.Omega.{arith}
 use borrow.Author.Rules.{rules}
 use Rattle.records.specs.Records.{sizes_of}
 use Rattle.room.specs.Contents.{Sized}
 use Rattle.room.proofs.SoundRoom.{sized}
-use Rattle.reads.proofs.Sums.{sum_to, sum-none, sum-next}
+use Rattle.reads.proofs.Sums.{sum-none, sum-next}
 use Rattle.reads.proofs.Totals.{counted, counted-one, counted_none, counted-most, count-is}
 use Rattle.reads.proofs.accounts.Lts as place
 use Rattle.reads.proofs.accounts.Tie as tie

@@ -1,6 +1,5 @@
 -- `reads::committed` meets its contract: `seek` gives the ledger's seat of the name, and `of_account` answers of it what the rule reads.
 use mathlib.Core.Path.{◌∙◌}
-use borrow.Author.Rules.{rules}
 use Rattle.rules.specs.AccountRules.{operate, read_rule}
 use Rattle.reads.proofs.Seeking.{read-long, read-account, sought-small}
 use Rattle.reads.proofs.committed.Goals as goal

@@ -4,7 +4,6 @@ use mathlib.Core.Path.{◌∙◌, ap}
 use mathlib.Core.List.{[], ◌∷◌}
 use Prim.Native.Nat.{◌≤◌}
 use native.Mathlib.Omega.{arith}
-use borrow.Author.Rules.{rules}
 use Rattle.rules.specs.RoomAndSoundLedger.{M}
 use Rattle.rules.specs.AnswerNumbers.{Amount, done}
 use Rattle.reads.proofs.Totals.{baseline-small, baseline-below, since-reads, since-overflows}

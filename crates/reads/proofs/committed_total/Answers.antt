@@ -1,7 +1,6 @@
 -- `reads::committed_total` meets its contract: the sum over the places is the ledger's total, or says that it is above M (Totals).
 use mathlib.Core.Path.{sym, ◌∙◌, ap}
 use mathlib.Core.List.{[], ◌∷◌}
-use borrow.Author.Rules.{rules}
 use Rattle.rules.specs.RoomAndSoundLedger.{committed_total}
 use Rattle.rules.specs.AnswerNumbers.{Amount, done}
 use Rattle.reads.proofs.Totals.{summed-fits, total-reads, total-overflows}

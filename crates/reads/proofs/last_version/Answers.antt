@@ -1,5 +1,4 @@
 -- `reads::last_version` meets its contract: what is loaded is the ledger's head.
-use borrow.Author.Rules.{rules}
 use Rattle.reads.proofs.Totals.{version-is}
 use Rattle.reads.proofs.last_version.Goals as goal
 

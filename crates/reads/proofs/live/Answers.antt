@@ -1,5 +1,4 @@
 -- `reads::live` meets its contract: what is loaded are the ledger's counts.
-use borrow.Author.Rules.{rules}
 use Rattle.reads.proofs.Totals.{live-is}
 use Rattle.reads.proofs.live.Goals as goal
 

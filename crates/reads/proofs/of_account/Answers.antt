@@ -1,6 +1,5 @@
 -- `reads::of_account` meets its contract: the flag's test is the definition's own, turned to its Boolean form.
 use mathlib.Core.List.{[], ◌∷◌}
-use borrow.Author.Rules.{rules}
 use borrow.Author.Tests.{eq-eqb, ne_eqb}
 use Rattle.rules.specs.AnswerNumbers.{Amount, done}
 use Rattle.reads.proofs.of_account.Goals as goal

@@ -1,6 +1,5 @@
 -- `reads::remaining` meets its contract: as for `committed`, with another amount.
 use mathlib.Core.Path.{◌∙◌}
-use borrow.Author.Rules.{rules}
 use Rattle.rules.specs.AccountRules.{operate, read_rule}
 use Rattle.reads.proofs.Seeking.{read-long, read-account, sought-small}
 use Rattle.reads.proofs.remaining.Goals as goal

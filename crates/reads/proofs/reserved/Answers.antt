@@ -1,7 +1,6 @@
 -- `reads::reserved` meets its contract: `seek` gives the ledger's seat of the name; without an account it has 0 reserved, so no test is needed.
 use mathlib.Core.Path.{◌∙◌, ap}
 use mathlib.Core.List.{[], ◌∷◌}
-use borrow.Author.Rules.{rules}
 use Rattle.rules.specs.AnswerNumbers.{Amount, done}
 use Rattle.rules.specs.AccountRules.{operate, read_reserved_rule}
 use Rattle.reads.proofs.Seeking.{read-long, read-reserved, sought-small}

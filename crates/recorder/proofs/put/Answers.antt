@@ -3,7 +3,6 @@ use mathlib.Core.Path.{◌≡◌, sym, subst}
 use mathlib.Core.Bool.{Bool}
 use mathlib.Core.List.{List, ◌++◌}
 use Prim.Native.Nat.{ℕ}
-use borrow.Author.Rules.{rules}
 use Rattle.rules.specs.Recorder.{fitting}
 use Rattle.recorder.specs.Recording.{Records, text_of}
 use Rattle.recorder.specs.declared.Recorded.{Recorded}

@@ -1,9 +1,7 @@
 -- `recorder::put_bytes`: nothing is written where both parts do not fit (`too_short`); else the head stands at the front, the tail behind it (`two-parts`).
 use mathlib.Core.Path.{refl}
 use mathlib.Core.List.{◌++◌}
-use Prim.Native.Nat.{◌+◌}
 use native.Mathlib.Omega.{arith}
-use borrow.Author.Rules.{rules}
 use lib.ListN.{length-append}
 use Rattle.recorder.proofs.Fitting.{too_short, fits, two-parts}
 use Rattle.recorder.proofs.put_bytes.Goals as goal

@@ -3,7 +3,6 @@ use mathlib.Core.Path.{◌≡◌, ◌∙◌}
 use mathlib.Core.List.{List, ◌++◌}
 use Prim.Native.Nat.{ℕ, ◌+◌}
 use native.Mathlib.Omega.{arith}
-use borrow.Author.Rules.{rules}
 use lib.ListN.{length, length-append}
 use Rattle.rules.specs.Frames.{line_of_bytes}
 use Rattle.rules.proofs.FrameBytes.{line-length, line-append}

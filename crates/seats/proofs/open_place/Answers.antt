@@ -3,7 +3,6 @@
 use mathlib.Core.Path.{◌≡◌, ◌∙◌, sym}
 use Prim.Native.Nat.{◌<◌}
 use native.Mathlib.Omega.{arith}
-use borrow.Author.Rules.{rules}
 use lib.ListN.{length}
 use Rattle.rules.specs.RoomAndSoundLedger.{Ledger}
 use Rattle.room.specs.Room.{IsRoom}

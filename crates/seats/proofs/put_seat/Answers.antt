@@ -2,7 +2,6 @@
 use mathlib.Core.Path.{ap, ◌∙◌}
 use Prim.Native.Nat.{◌<◌}
 use native.Mathlib.Omega.{arith}
-use borrow.Author.Rules.{rules}
 use Rattle.room.specs.Contents.{contents_of, empty_place, with_place}
 use Rattle.room.specs.Seats.{reseated, with_seat}
 use Rattle.tables.proofs.Stores.{sized-by, place-loaded}

@@ -2,7 +2,6 @@
 use mathlib.Core.Path.{sym, ap, ◌∙◌, subst}
 use Prim.Native.Nat.{◌<◌}
 use native.Mathlib.Omega.{arith}
-use borrow.Author.Rules.{rules}
 use lib.ListN.{length}
 use Rattle.records.specs.Records.{sizes_of}
 use Rattle.room.specs.Contents.{contents_of, used_places, empty_place}

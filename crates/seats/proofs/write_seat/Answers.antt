@@ -2,7 +2,6 @@
 use mathlib.Core.Path.{◌≡◌, ◌∙◌, sym}
 use mathlib.Core.Bool.{true, false}
 use Prim.Native.Nat.{◌<◌}
-use borrow.Author.Rules.{rules}
 use Rattle.rules.specs.RoomAndSoundLedger.{Ledger, holds_place}
 use Rattle.room.specs.Contents.{contents_of, Sized}
 use Rattle.room.specs.Room.{place_number, IsRoom}

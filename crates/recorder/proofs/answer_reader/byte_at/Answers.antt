@@ -1,6 +1,5 @@
 -- `recorder::answer_reader::byte_at`: a byte fits the wider number.
 use native.Mathlib.Omega.{arith}
-use borrow.Author.Rules.{rules}
 use Rattle.recorder.proofs.answer_reader.byte_at.Goals as goal
 
 pub overflow_cast-result : goal.overflow_cast-result

@@ -1,6 +1,5 @@
 -- `recorder::answer_reader::name_end`: both tests are those that its promise names.
 use native.Mathlib.Omega.{arith}
-use borrow.Author.Rules.{rules}
 use Rattle.recorder.proofs.answer_reader.name_end.Goals as goal
 
 pub overflow_cast-size : goal.overflow_cast-size

@@ -2,7 +2,6 @@
 -- `read_answer_bytes` has read of them.
 use mathlib.Core.Path.{refl, sym}
 use native.Mathlib.Omega.{arith}
-use borrow.Author.Rules.{rules}
 use lib.Seq.{length-take-le}
 use Rattle.recorder.proofs.AnswerLine.{broken, decoded}
 use Rattle.recorder.proofs.answer_reader.read_answer.Goals as goal

@@ -3,7 +3,6 @@ use mathlib.Core.Path.{◌≡◌, refl, sym, ◌∙◌, ap, subst}
 use mathlib.Core.List.{◌∷◌}
 use mathlib.Core.Option.{Option, map}
 use native.Mathlib.Omega.{arith}
-use borrow.Author.Rules.{rules}
 use lib.ListN.{get_or}
 use Rattle.rules.specs.AnswerNumbers.{Reply}
 use Rattle.rules.specs.Recorder.{answer_of_bytes, words_of}

@@ -2,7 +2,6 @@
 use mathlib.Core.Path.{◌≡◌, refl, sym, subst}
 use mathlib.Core.List.{List}
 use Prim.Native.Nat.{ℕ}
-use borrow.Author.Rules.{rules}
 use Rattle.recorder.specs.Shapes.{kinds_of}
 use Rattle.recorder.specs.Reading.{CarriesAs}
 use Rattle.recorder.specs.declared.answer_table.Shape.{Shape}

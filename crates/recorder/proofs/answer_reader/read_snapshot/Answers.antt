@@ -2,7 +2,6 @@
 use mathlib.Core.Path.{◌≡◌}
 use Prim.Native.Nat.{ℕ}
 use native.Mathlib.Omega.{arith}
-use borrow.Author.Rules.{rules}
 use Rattle.recorder.proofs.SnapshotPlace.{no-snapshot, a-snapshot}
 use Rattle.recorder.proofs.answer_reader.read_snapshot.Goals as goal
 

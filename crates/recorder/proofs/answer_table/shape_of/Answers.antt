@@ -4,7 +4,6 @@ use mathlib.Core.Path.{◌≡◌, sym, ◌∙◌, ap}
 use mathlib.Core.Logic.{inl, inr}
 use Prim.Native.Nat.{◌/◌, ◌%◌, ◌^◌}
 use native.Mathlib.Omega.{arith}
-use borrow.Author.Rules.{rules}
 use Rattle.rules.specs.Recorder.{form_of}
 use Rattle.recorder.specs.Shapes.{kinds_in}
 use Rattle.recorder.proofs.AnswerTable.{bit_at, beyond, no-bit, of-top-up, of_others}

@@ -4,7 +4,6 @@ use mathlib.Core.Bool.{Bool, true, false, cond, not, ◌||◌}
 use mathlib.Core.List.{List}
 use mathlib.Core.Option.{Option, none, some}
 use Prim.Native.Nat.{ℕ}
-use borrow.Author.Rules.{rules}
 use Rattle.rules.specs.SnapshotsMigrationCertificates.{Snapshot, snapshot_of_bytes, has_long_name}
 use Rattle.rules.specs.Recorder.{long_in}
 use Rattle.snapshot_reader.specs.declared.Checked.TheVariants.{Passes, NameTooLong, BadFrame}

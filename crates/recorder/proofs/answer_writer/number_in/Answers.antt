@@ -1,6 +1,5 @@
 -- `answer_writer::number_in`: the check knows of a lent slice of words that each of them is a word.
 use mathlib.Core.Path.{refl}
-use borrow.Author.Rules.{rules}
 use Rattle.recorder.proofs.answer_writer.number_in.Goals as goal
 
 pub returns : goal.returns

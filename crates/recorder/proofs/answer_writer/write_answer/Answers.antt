@@ -4,7 +4,6 @@ use mathlib.Core.Path.{◌≡◌, refl, sym, ◌∙◌, ap, subst}
 use mathlib.Core.List.{List, ◌++◌}
 use Prim.Native.Nat.{ℕ, ◌≤◌}
 use native.Mathlib.Omega.{arith}
-use borrow.Author.Rules.{rules}
 use lib.ListN.{length}
 use Rattle.rules.specs.Frames.{reply_bytes, line_of_bytes}
 use Rattle.rules.specs.Recorder.{Recording, line_in, record_answer}

@@ -1,6 +1,5 @@
 -- `answer_writer::write_proof`: a word is written as the number that it is, and the flag as its byte; search finds that it fits one.
 use mathlib.Core.Path.{refl}
-use borrow.Author.Rules.{rules}
 use Rattle.recorder.proofs.answer_writer.write_proof.Goals as goal
 
 pub returns : goal.returns

@@ -4,7 +4,6 @@ use mathlib.Core.Path.{◌≡◌}
 use mathlib.Core.Logic.{inl, inr, ⊎_elim, ◌≢◌}
 use Prim.Native.Nat.{ℕ, ◌<◌}
 use native.Mathlib.Omega.{arith}
-use borrow.Author.Rules.{rules}
 use Rattle.rules.proofs.Tests.{equal_or_not}
 use Rattle.recorder.specs.Recording.{parts}
 use Rattle.recorder.proofs.OperationFrames.{at_code, fence-behind, since-behind, no-operation, unknown-frame}

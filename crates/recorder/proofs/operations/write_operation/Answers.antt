@@ -1,5 +1,4 @@
 -- `recorder::operations::write_operation`: `write` as a line.
-use borrow.Author.Rules.{rules}
 use Rattle.rules.specs.Recorder.{line_in}
 use Rattle.recorder.proofs.operations.write_operation.Goals as goal
 
