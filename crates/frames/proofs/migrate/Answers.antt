@@ -28,10 +28,10 @@ use Rattle.frames.proofs.migrate.Tie as tie
 use Rattle.frames.proofs.migrate.Goals as goal
 
 abbrev Start : Type 0
-Start = place.Start tie.the-claims tie.handed_pre tie.handed_post
+Start = place.Start tie.the-claims tie.handed_pre tie.handed_post tie.handed_clauses
 
 abbrev After-migrate-judged : Type 0
-After-migrate-judged = place.After-migrate tie.the-claims tie.handed_pre tie.handed_post
+After-migrate-judged = place.After-migrate tie.the-claims tie.handed_pre tie.handed_post tie.handed_clauses
 
 module _ (c : After-migrate-judged) where
   abbrev start : Start
@@ -58,7 +58,7 @@ module _ (c : After-migrate-judged) where
 pub returns-in_default : goal.returns-in_default
 returns-in_default c s e =
     let j = c.migrate-judged.result in
-    let refused = is-refused (spelled j.name) j.verdict c.in-Done.keys2 in
+    let refused = is-refused (spelled j.name) j.verdict (let h = c.in_default in ?) in
     matched (sym (same_answer refused _ _ ∙ answers c.before.before.before.before.before.before.before.before s e))
     (subst (λ before. WritesReply (judged_reply j) before c.write_judged.new.output c.write_judged.result) (part-back (output c.before.before.before.before.before.before.before.before) (c.migrate-judged.ensures.output.0 ∙ untouched refused _ _)) c.write_judged.ensures)
 

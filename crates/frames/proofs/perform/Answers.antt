@@ -69,7 +69,7 @@ returns-in-RecoveryRestore c L room =
 
 pub returns-in_default : goal.returns-in_default
 returns-in_default c L is_room =
-    left_alone (takes_none (bytes c.before.before.before.before.before.before) (sound L) (start c.before.before.before.before.before.before).args.frame c.in-Ensure.keys12) is_room c.without_ledger.ensures
+    left_alone (takes_none (bytes c.before.before.before.before.before.before) (sound L) (start c.before.before.before.before.before.before).args.frame (let h = c.in_default in ?)) is_room c.without_ledger.ensures
 
 pub slice_bounds-ensure-count : goal.slice_bounds-ensure-count
 slice_bounds-ensure-count c = (parts c.before.before.before c.in-Ensure.is).0

@@ -17,4 +17,4 @@ returns-in-Migrate c bs within =
     sym (ap (λ f. room_for (operation_in bs f)) is ∙ ap room_for (supplied-is (subst (PartsWithin bs) is within) (migrate_to _)))
 
 pub returns-in_default : goal.returns-in_default
-returns-in_default c bs within = short-answer bs c.args.frame c.in-Snapshot.keys3
+returns-in_default c bs within = short-answer bs c.args.frame (let h = c.in_default in ?)

@@ -23,10 +23,10 @@ use Rattle.frames.proofs.snapshot.Tie as tie
 use Rattle.frames.proofs.snapshot.Goals as goal
 
 abbrev Start : Type 0
-Start = place.Start tie.the-claims tie.handed_pre tie.handed_post
+Start = place.Start tie.the-claims tie.handed_pre tie.handed_post tie.handed_clauses
 
 abbrev After-snapshot : Type 0
-After-snapshot = place.After-snapshot tie.the-claims tie.handed_pre tie.handed_post
+After-snapshot = place.After-snapshot tie.the-claims tie.handed_pre tie.handed_post tie.handed_clauses
 
 module _ (c : After-snapshot) where
   abbrev start : Start
@@ -55,7 +55,7 @@ pub returns-in_default : goal.returns-in_default
 unfolding answer
 returns-in_default c L is_room =
     let r = c.snapshot.result in
-    let is = exhausted L is_room.sound (after c.before.before.before.before.before.before.before.before.before.before) r c.in-Written.keys2 (performs c.before.before.before.before.before.before.before.before.before.before L is_room).answer in
+    let is = exhausted L is_room.sound (after c.before.before.before.before.before.before.before.before.before.before) r (let h = c.in_default in ?) (performs c.before.before.before.before.before.before.before.before.before.before L is_room).answer in
     let back = part-back (output c.before.before.before.before.before.before.before.before.before.before) (c.snapshot.ensures.output.0 ∙ ap (λ x. output_after x (part (output c.before.before.before.before.before.before.before.before.before.before))) is) in
     performed (subst (λ x. Performed (snapshot longest_snapshot) L x c.snapshot.new.room) is (performs c.before.before.before.before.before.before.before.before.before.before L is_room))
     (subst (λ before. WritesReply (reply_of AllocatorExhausted) before c.write_number.new.output c.write_number.result) back c.write_number.ensures) refl

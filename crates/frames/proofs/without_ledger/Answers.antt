@@ -81,7 +81,7 @@ returns-in-BadFrame c = told c.before.before.before.before.before.before c.in-Ba
 pub returns-in_default : goal.returns-in_default
 returns-in_default c =
     let entry = start c.before.before.before.before.before.before in
-    matched (refuses (bytes c.before.before.before.before.before.before) entry.args.frame c.in-Migrate.keys5 entry.requires.0) c.write_number-in_default.ensures
+    matched (refuses (bytes c.before.before.before.before.before.before) entry.args.frame (let h = c.in_default in ?) entry.requires.0) c.write_number-in_default.ensures
 
 pub slice_bounds-migrate-count : goal.slice_bounds-migrate-count
 slice_bounds-migrate-count c = (parts c.before.before c.in-Migrate.is).within
