@@ -4,7 +4,7 @@ use mathlib.Core.Path.{◌≡◌, sym, subst, ◌∙◌}
 use mathlib.Core.Bool.{false}
 use mathlib.Core.List.{List}
 use mathlib.Core.Option.{some}
-use Prim.Native.Nat.{ℕ, ◌-◌}
+use Prim.Native.Nat.{ℕ}
 use Rattle.rules.specs.SnapshotsMigrationCertificates.{Row, Snapshot, snapshot_of_bytes, has_long_name}
 use Rattle.snapshot_reader.specs.declared.StandingRow.{StandingRow}
 use Rattle.snapshot_reader.specs.Standing.{ShortNames, ReadsRow}

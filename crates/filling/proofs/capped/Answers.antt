@@ -1,7 +1,6 @@
 -- `filling::capped` meets its contract: a sum above M is no sum to `numbers::plus`, and M is then the smaller.
 use mathlib.Core.Path.{sym, ◌∙◌}
 use native.Mathlib.Omega.{arith}
-use borrow.Author.Rules.{rules}
 use Rattle.rules.specs.RoomAndSoundLedger.{M}
 use Rattle.numbers.proofs.Amounts.{above-sum, fits_sum}
 use Rattle.filling.proofs.capped.Goals as goal

@@ -1,7 +1,6 @@
 -- `filling::fill` meets its contract: the room is made anew, so it is a fresh ledger's; the rows are put into it; and the head written last completes the
 -- ledger restored (Renewing).
 use mathlib.Core.Path.{◌∙◌, ap}
-use borrow.Author.Rules.{rules}
 use Rattle.rules.specs.RoomAndSoundLedger.{fence_of, fresh}
 use Rattle.room.specs.Room.{IsRoom, OfRoom}
 use Rattle.snapshot_reader.specs.Standing.{OfSnapshot}

@@ -1,7 +1,6 @@
 -- `filling::put_row` meets its contract: the seat is not vacant and has room, so of what `seats::write_seat` may do only putting it is left.
 use mathlib.Core.Path.{◌∙◌, ap}
 use mathlib.Core.Bool.{cond}
-use borrow.Author.Rules.{rules}
 use Rattle.rules.specs.RoomAndSoundLedger.{with_places}
 use Rattle.rules.specs.AccountRules.{seated}
 use Rattle.rules.proofs.Tests.{true-false}

@@ -3,15 +3,13 @@
 use mathlib.Core.Path.{◌≡◌, refl, sym, ◌∙◌, ap, subst}
 use Prim.Native.Nat.{◌+◌, ◌-◌, ◌≤◌, min}
 use native.Mathlib.Omega.{arith}
-use borrow.Author.Rules.{rules}
 use lib.ListN.{length, take, drop}
 use Rattle.rules.specs.RoomAndSoundLedger.{M, Ledger}
 use Rattle.rules.specs.AccountRules.{natural}
 use Rattle.rules.specs.SnapshotsMigrationCertificates.{Snapshot, is_negative}
 use Rattle.big_endian.specs.Layout.{row_amounts}
 use Rattle.numbers.proofs.Bytes.{all-bytes}
-use Rattle.room.specs.Room.{OfRoom}
-use Rattle.snapshot_reader.specs.Standing.{OfSnapshot, Passed, ReadsRow}
+use Rattle.snapshot_reader.specs.Standing.{Passed, ReadsRow}
 use Rattle.snapshot_reader.proofs.Header.{header}
 use Rattle.snapshot_reader.proofs.Rows.{part-is-name, AtRow, start, at_row, stands, advance, finished}
 use Rattle.filling.specs.Filling.{NoneNegative, seat_of_row}

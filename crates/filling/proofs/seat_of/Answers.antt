@@ -1,6 +1,5 @@
 -- `filling::seat_of` meets its contract: each amount by `natural`, and the seat field by field.
 use mathlib.Core.Path.{◌∙◌, ap}
-use borrow.Author.Rules.{rules}
 use Rattle.rules.specs.AccountRules.{natural}
 use Rattle.filling.proofs.seat_of.Goals as goal
 

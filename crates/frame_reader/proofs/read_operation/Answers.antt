@@ -2,7 +2,6 @@
 -- of the code: that what no arm takes is above 14 or 0 (`unknown` of Codes.antt).
 use mathlib.Core.Path.{sym}
 use native.Mathlib.Omega.{arith}
-use borrow.Author.Rules.{rules}
 use Rattle.frame_reader.proofs.Codes.{empty, unknown}
 use Rattle.frame_reader.proofs.read_operation.Goals as goal
 

@@ -3,7 +3,6 @@
 use mathlib.Core.Path.{◌≡◌, sym, ap, ◌∙◌}
 use Prim.Native.Nat.{◌<◌}
 use native.Mathlib.Omega.{arith}
-use borrow.Author.Rules.{rules}
 use Rattle.room.specs.Contents.{contents_of, Sized, with_head, appended_booking}
 use Rattle.tables.proofs.Stores.{sized-by, loaded}
 use Rattle.reservations.specs.Steps.{granted, full}

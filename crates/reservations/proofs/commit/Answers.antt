@@ -5,9 +5,8 @@ use mathlib.Core.List.{List, [], ◌∷◌}
 use mathlib.Core.Option.{some}
 use Prim.Native.Nat.{ℕ, ◌≤◌}
 use native.Mathlib.Omega.{arith}
-use borrow.Author.Rules.{rules}
 use lib.IntN.{ℤ, pos}
-use Rattle.rules.specs.RoomAndSoundLedger.{M, Ledger}
+use Rattle.rules.specs.RoomAndSoundLedger.{Ledger}
 use Rattle.rules.specs.AnswerNumbers.{InvalidAmount, MissingTenant, OverflowOfCommit, Overrun, reply_of, MissingReservation}
 use Rattle.rules.specs.AccountRules.{AccountOperation, commit, commit_rule, operate, on_booking, booked, done_with, Settlement, leave}
 use Rattle.rules.specs.Domain.{IsAmount}

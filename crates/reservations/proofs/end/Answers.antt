@@ -1,7 +1,6 @@
 -- `reservations::end` meets its contract: the seat and then the booking: two changes of the contents, and the first leaves the sizes that the second asks
 -- for.
 use mathlib.Core.Path.{◌≡◌, ap, ◌∙◌}
-use borrow.Author.Rules.{rules}
 use Rattle.room.specs.Contents.{contents_of, removed_booking}
 use Rattle.reservations.proofs.Stepping.{seated-sizes, seated-sized}
 use Rattle.reservations.proofs.end.Goals as goal

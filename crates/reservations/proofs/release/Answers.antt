@@ -4,8 +4,7 @@ use mathlib.Core.Path.{◌≡◌, refl, sym, ap, ap₂, subst, ◌∙◌}
 use mathlib.Core.List.{List, [], ◌∷◌}
 use Prim.Native.Nat.{ℕ}
 use native.Mathlib.Omega.{arith}
-use borrow.Author.Rules.{rules}
-use Rattle.rules.specs.RoomAndSoundLedger.{M, Ledger}
+use Rattle.rules.specs.RoomAndSoundLedger.{Ledger}
 use Rattle.rules.specs.AnswerNumbers.{MissingTenant, MissingReservation}
 use Rattle.rules.specs.AccountRules.{AccountOperation, release, release_rule, operate, on_booking, booked, done_with}
 use Rattle.moves.specs.Moves.{SeatSound, releasing_settlement, ReleasingSound}

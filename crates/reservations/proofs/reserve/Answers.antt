@@ -5,7 +5,6 @@ use mathlib.Core.List.{List}
 use Prim.Native.Nat.{ℕ, ◌+◌, ◌≤◌}
 use mathlib.Core.Bool.{Bool, true, false}
 use native.Mathlib.Omega.{arith}
-use borrow.Author.Rules.{rules}
 use lib.IntN.{ℤ, pos}
 use Rattle.rules.specs.RoomAndSoundLedger.{Name, Ledger, M}
 use Rattle.rules.specs.AnswerNumbers.{MissingTenant, OverflowOfReserve, ExposureLimitExceeded, Insufficient, reply_of}

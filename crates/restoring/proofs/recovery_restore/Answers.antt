@@ -1,5 +1,4 @@
 -- `restoring::recovery_restore` meets its contract: as `restore`, by the other form (Restoring).
-use borrow.Author.Rules.{rules}
 use Rattle.rules.specs.SnapshotsMigrationCertificates.{recovery_version, recovery_restore}
 use Rattle.restoring.proofs.Restoring.{recovery-keeps, form-keeps, by-its-form}
 use Rattle.restoring.proofs.recovery_restore.Goals as goal

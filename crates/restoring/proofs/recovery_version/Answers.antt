@@ -1,7 +1,6 @@
 -- `restoring::recovery_version` meets its contract: the tag is asked before the fence, and each return is one law of Versions.
 use mathlib.Core.Path.{◌≡◌, sym, ◌∙◌}
 use mathlib.Core.Bool.{true}
-use borrow.Author.Rules.{rules}
 use borrow.Author.Tests.{not-true, not-false}
 use Rattle.rules.specs.RoomAndSoundLedger.{has_tag}
 use Rattle.restoring.proofs.Versions.{legacy, zero-fence-refused, recovers}

@@ -1,5 +1,4 @@
 -- `restoring::restore` meets its contract: what `restore_by` promises of what was said of the version, read at the version of the snapshot (Restoring).
-use borrow.Author.Rules.{rules}
 use Rattle.rules.specs.SnapshotsMigrationCertificates.{restore_version, restore}
 use Rattle.restoring.proofs.Restoring.{restore-keeps, form-keeps, by-its-form}
 use Rattle.restoring.proofs.restore.Goals as goal

@@ -1,7 +1,6 @@
 -- `restoring::restore_by` meets its contract: what was checked is the rule's refusal; a verdict that is not `Done` leaves the room, and else the room filled
 -- is the ledger restored, sound by what the form keeps (Restoring).
 use mathlib.Core.List.{[]}
-use borrow.Author.Rules.{rules}
 use Rattle.validation.specs.Judgement.{refusal_of}
 use Rattle.validation.proofs.Deciding.{not_done}
 use Rattle.restoring.proofs.Restoring.{Told, checked, refused, taken, replaced}

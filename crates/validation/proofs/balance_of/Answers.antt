@@ -3,7 +3,6 @@
 use mathlib.Core.Path.{◌≡◌, refl, sym, ◌∙◌, ap}
 use mathlib.Core.Logic.{◌≢◌}
 use mathlib.Core.Bool.{true, false}
-use borrow.Author.Rules.{rules}
 use mathlib.Core.Option.{some}
 use lib.IntN.{ℤ, ◌+ℤ◌, ◌-ℤ◌, +ℤ_idl}
 use mir.Syntax.{w64}

@@ -1,14 +1,11 @@
 -- `validation::conservation` meets its contract: a pass that judges (Passing), with the conservation of a row as its judgement. The invariant: the rows to
 -- come decide.
-use Prim.Native.Nat.{◌-◌}
 use native.Mathlib.Omega.{arith}
-use borrow.Author.Rules.{rules}
-use lib.ListN.{length}
 use Rattle.snapshot_reader.specs.Standing.{RowOf}
 use Rattle.snapshot_reader.proofs.Rows.{Further, forward}
 use Rattle.validation.proofs.Deciding.{not_done}
 use Rattle.validation.proofs.StoredForm.{nameless-form}
-use Rattle.validation.proofs.Passing.{conserving, Coming, first, row-there, standing, stops, goes_on, none-bad}
+use Rattle.validation.proofs.Passing.{conserving, first, row-there, standing, stops, goes_on, none-bad}
 use Rattle.validation.proofs.conservation.Lts as place
 use Rattle.validation.proofs.conservation.Tie as tie
 use Rattle.validation.proofs.conservation.Goals as goal

@@ -1,13 +1,8 @@
 -- `validation::conservation` meets its contract: a pass that judges (Passing), with the conservation of a row as its judgement. The invariant: the rows to
 -- come decide.
 use Prim.Native.Nat.{◌-◌}
-use native.Mathlib.Omega.{arith}
-use borrow.Author.Rules.{rules}
 use lib.ListN.{length}
-use Rattle.snapshot_reader.specs.Standing.{RowOf}
-use Rattle.snapshot_reader.proofs.Rows.{Further, forward}
-use Rattle.validation.proofs.StoredForm.{nameless-form}
-use Rattle.validation.proofs.Passing.{conserving, Coming, first, row-there, standing, stops, goes_on, none-bad}
+use Rattle.validation.proofs.Passing.{conserving, Coming}
 use Rattle.validation.proofs.conservation.Given as goal
 
 abbrev pub invariant-loop-at : goal.invariant-loop-at

@@ -2,7 +2,6 @@
 use mathlib.Core.Path.{ap, sym, subst, ◌∙◌}
 use Prim.Native.Nat.{◌≤◌}
 use native.Mathlib.Omega.{arith}
-use borrow.Author.Rules.{rules}
 use lib.ListN.{length}
 use Rattle.rules.specs.RoomAndSoundLedger.{longest_name}
 use Rattle.names.specs.Names.{stored}

@@ -1,6 +1,5 @@
 -- `validation::of_row` meets its contract: the verdicts are known by their tags, and each of the two kinds is said as StoredForm has it.
 use mathlib.Core.Path.{ap, ◌∙◌}
-use borrow.Author.Rules.{rules}
 use Rattle.names.specs.Names.{spelled}
 use Rattle.names.proofs.Storing.{spelled-stored}
 use Rattle.validation.specs.Judgement.{refusal_of, refusal_in}

@@ -1,6 +1,5 @@
 -- `validation::row_conservation` meets its contract: what is read is the row, and `balance_of` judges its amounts.
 use mathlib.Core.Path.{ap, ◌∙◌}
-use borrow.Author.Rules.{rules}
 use Rattle.rules.specs.SnapshotsMigrationCertificates.{row_conservation}
 use Rattle.validation.proofs.Standing.{read-is-row}
 use Rattle.validation.proofs.row_conservation.Goals as goal

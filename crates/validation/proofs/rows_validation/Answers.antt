@@ -1,15 +1,12 @@
 -- `validation::rows_validation` meets its contract: a pass that judges (Passing), with the validation of a row as its judgement. The invariant: the rows to
 -- come decide, with the names of those passed.
-use Prim.Native.Nat.{◌-◌}
 use native.Mathlib.Omega.{arith}
-use borrow.Author.Rules.{rules}
-use lib.ListN.{length}
 use Rattle.snapshot_reader.specs.Standing.{RowOf}
 use Rattle.snapshot_reader.proofs.Rows.{Further, forward}
 use Rattle.validation.specs.Judgement.{seen_in}
 use Rattle.validation.proofs.Deciding.{not_done}
 use Rattle.validation.proofs.StoredForm.{nameless-form}
-use Rattle.validation.proofs.Passing.{validating, Coming, first, row-there, standing, stops, goes_on, none-bad}
+use Rattle.validation.proofs.Passing.{validating, first, row-there, standing, stops, goes_on, none-bad}
 use Rattle.validation.proofs.rows_validation.Lts as place
 use Rattle.validation.proofs.rows_validation.Tie as tie
 use Rattle.validation.proofs.rows_validation.Goals as goal

@@ -1,17 +1,15 @@
 -- `validation::seen_earlier` meets its contract. The invariant: the pass goes towards the row, and no row passed has its name.
 use mathlib.Core.Path.{◌≡◌, refl, sym, ap, ◌∙◌}
 use mathlib.Core.Bool.{true, false}
-use mathlib.Core.List.{List, ◌∷◌}
-use Prim.Native.Nat.{ℕ, ◌-◌}
+use mathlib.Core.List.{List}
+use Prim.Native.Nat.{ℕ}
 use native.Mathlib.Omega.{arith}
-use borrow.Author.Rules.{rules}
 use Rattle.rules.specs.Lists.{any}
 use Rattle.rules.specs.RoomAndSoundLedger.{same}
-use Rattle.rules.specs.SnapshotsMigrationCertificates.{Row}
-use Rattle.snapshot_reader.specs.Standing.{RowStands, OfRow, RowOf, Passed, EndsName}
+use Rattle.snapshot_reader.specs.Standing.{RowStands, OfRow, RowOf, EndsName}
 use Rattle.snapshot_reader.proofs.Header.{header}
 use Rattle.snapshot_reader.proofs.Rows.{part-is-name, AtRow, start, at_row, Further, forward, advance}
-use Rattle.snapshot_reader.proofs.Towards.{Towards, towards-start, towards-turn, towards_end}
+use Rattle.snapshot_reader.proofs.Towards.{towards-start, towards-turn, towards_end}
 use Rattle.validation.proofs.Seen.{is_named, any-before, any-there, seen-earlier}
 use Rattle.validation.proofs.seen_earlier.Lts as place
 use Rattle.validation.proofs.seen_earlier.Tie as tie

@@ -1,18 +1,13 @@
 -- `validation::seen_earlier` meets its contract. The invariant: the pass goes towards the row, and no row passed has its name.
-use mathlib.Core.Path.{◌≡◌, refl, sym, ap, ◌∙◌}
-use mathlib.Core.Bool.{true, false}
+use mathlib.Core.Path.{◌≡◌}
+use mathlib.Core.Bool.{false}
 use mathlib.Core.List.{List, ◌∷◌}
 use Prim.Native.Nat.{ℕ, ◌-◌}
-use native.Mathlib.Omega.{arith}
-use borrow.Author.Rules.{rules}
 use Rattle.rules.specs.Lists.{any}
-use Rattle.rules.specs.RoomAndSoundLedger.{same}
 use Rattle.rules.specs.SnapshotsMigrationCertificates.{Row}
-use Rattle.snapshot_reader.specs.Standing.{RowStands, OfRow, RowOf, Passed, EndsName}
-use Rattle.snapshot_reader.proofs.Header.{header}
-use Rattle.snapshot_reader.proofs.Rows.{part-is-name, AtRow, start, at_row, Further, forward, advance}
-use Rattle.snapshot_reader.proofs.Towards.{Towards, towards-start, towards-turn, towards_end}
-use Rattle.validation.proofs.Seen.{is_named, any-before, any-there, seen-earlier}
+use Rattle.snapshot_reader.specs.Standing.{RowOf, Passed}
+use Rattle.snapshot_reader.proofs.Towards.{Towards}
+use Rattle.validation.proofs.Seen.{is_named}
 use Rattle.validation.proofs.seen_earlier.Given as goal
 
 abbrev pub Unseen : {bs : List ℕ} {at : ℕ} → RowOf bs at → (earlier later : List Row) → Type 0

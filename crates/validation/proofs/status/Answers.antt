@@ -1,7 +1,6 @@
 -- `validation::status` meets its contract: a long name is 19, and else the names are short, which is what `conservation` asks.
 use mathlib.Core.Path.{sym, ap, ◌∙◌}
 use mathlib.Core.List.{[]}
-use borrow.Author.Rules.{rules}
 use Rattle.rules.specs.AnswerNumbers.{done}
 use Rattle.rules.specs.SnapshotsMigrationCertificates.{reply_or, status}
 use Rattle.validation.specs.Judgement.{judged_reply}
