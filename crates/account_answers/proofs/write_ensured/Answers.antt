@@ -1,6 +1,5 @@
 -- `account_answers::write_ensured`: in each arm the answer is the case matched, so `matched` of answer_bytes takes over what the arm's writing promises.
 use mathlib.Core.Path.{ap}
-use borrow.Author.Rules.{rules}
 use Rattle.accounts.specs.Answers.{ensured_reply}
 use Rattle.answer_bytes.proofs.Arms.{matched, word-is}
 use Rattle.account_answers.proofs.write_ensured.Goals as goal

@@ -1,6 +1,5 @@
 -- `account_answers::write_limited`: `matched` in each arm, as for `write_ensured`.
 use mathlib.Core.Path.{ap}
-use borrow.Author.Rules.{rules}
 use Rattle.accounts.specs.Answers.{limited_reply}
 use Rattle.answer_bytes.proofs.Arms.{matched, word-is}
 use Rattle.account_answers.proofs.write_limited.Goals as goal

@@ -1,6 +1,5 @@
 -- `account_answers::write_released`: `matched` in each arm; the amounts go by their words (`word-is`).
 use mathlib.Core.Path.{ap}
-use borrow.Author.Rules.{rules}
 use Rattle.reservations.specs.Answers.{released_reply}
 use Rattle.answer_bytes.proofs.Arms.{matched, word-is}
 use Rattle.account_answers.proofs.write_released.Goals as goal

@@ -1,6 +1,5 @@
 -- `account_answers::write_reserved`: `matched` in each arm; the amounts go by their words (`word-is`), and an id is its own word.
 use mathlib.Core.Path.{refl, ap}
-use borrow.Author.Rules.{rules}
 use Rattle.reservations.specs.Answers.{reserved_reply}
 use Rattle.answer_bytes.proofs.Arms.{matched, word-is}
 use Rattle.account_answers.proofs.write_reserved.Goals as goal

@@ -1,6 +1,5 @@
 -- `account_answers::write_topped_up`: `matched` in each arm; each of the three amounts goes by the word that was made of it (`word-is`).
 use mathlib.Core.Path.{ap}
-use borrow.Author.Rules.{rules}
 use Rattle.accounts.specs.Answers.{topped_up_reply}
 use Rattle.answer_bytes.proofs.Arms.{matched, word-is}
 use Rattle.account_answers.proofs.write_topped_up.Goals as goal

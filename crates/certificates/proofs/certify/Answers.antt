@@ -1,5 +1,4 @@
 -- `certificates::certify` meets its contract: by whether the totals fit, one law of Certifying each.
-use borrow.Author.Rules.{rules}
 use Rattle.certificates.proofs.Certifying.{told-outside, told_fit, certified-outside, certified-fit}
 use Rattle.certificates.proofs.certify.Goals as goal
 

@@ -1,6 +1,5 @@
 -- `certificates::fit_both` meets its contract: the two totals are fitted one after the other, and the rule's test is of both (BothTotals).
 use mathlib.Core.Path.{sym, ◌∙◌}
-use borrow.Author.Rules.{rules}
 use Rattle.totals.specs.Totals.{value_of}
 use Rattle.totals.proofs.Fitting.{fits-is, outside-is}
 use Rattle.certificates.proofs.BothTotals.{initial-outside, committed-outside, both-fit}

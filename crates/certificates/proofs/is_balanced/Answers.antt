@@ -2,7 +2,6 @@
 use mathlib.Core.Path.{◌≡◌, refl, sym, ◌∙◌, ap}
 use mathlib.Core.Bool.{false}
 use mathlib.Core.Option.{Option, some}
-use borrow.Author.Rules.{rules}
 use Rattle.rules.specs.AnswerNumbers.{Refusal, AggregateOverflow}
 use Rattle.rules.specs.SnapshotsMigrationCertificates.{and_then, is_none}
 use Rattle.rules.proofs.Tests.{by-option, none-some}

@@ -4,7 +4,6 @@ use mathlib.Core.Path.{◌≡◌, refl, ◌∙◌, ap}
 use mathlib.Core.List.{List}
 use Prim.Native.Nat.{ℕ}
 use native.Mathlib.Omega.{arith}
-use borrow.Author.Rules.{rules}
 use lib.IntN.{pos}
 use Rattle.rules.specs.RoomAndSoundLedger.{Ledger, committed_total}
 use Rattle.rules.specs.SnapshotsMigrationCertificates.{account_rows, snapshot_of, totals_fit, certificate, certificate_of_ledger}

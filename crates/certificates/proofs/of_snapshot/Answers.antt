@@ -1,5 +1,4 @@
 -- `certificates::of_snapshot` meets its contract: each number is that of the snapshot, and `certify` makes the certificate of them.
-use borrow.Author.Rules.{rules}
 use Rattle.certificates.proofs.of_snapshot.Goals as goal
 
 pub returns : goal.returns

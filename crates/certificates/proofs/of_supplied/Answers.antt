@@ -1,6 +1,5 @@
 -- `certificates::of_supplied` meets its contract: a long name is 19, and else the names are short, which is what `of_snapshot` asks.
 use mathlib.Core.Path.{sym, ap, ◌∙◌}
-use borrow.Author.Rules.{rules}
 use Rattle.rules.specs.SnapshotsMigrationCertificates.{reply_or, certificate, certificate_of_snapshot}
 use Rattle.validation.proofs.Deciding.{decides, goes_on}
 use Rattle.certificates.proofs.of_supplied.Goals as goal

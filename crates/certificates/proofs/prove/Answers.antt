@@ -2,7 +2,6 @@
 use mathlib.Core.Path.{refl, ap}
 use mathlib.Core.List.{List}
 use Prim.Native.Nat.{ℕ}
-use borrow.Author.Rules.{rules}
 use Rattle.rules.specs.SnapshotsMigrationCertificates.{account_rows, conservation_proof}
 use Rattle.room.specs.Room.{OfRoom}
 use Rattle.room.proofs.SoundRoom.{sized}

@@ -1,7 +1,6 @@
 -- `certificates::rotation` meets its contract: totals that do not fit leave the head; else the total is a natural number, so one of the two signs is
 -- impossible.
 use mathlib.Core.Path.{sym, ◌∙◌}
-use borrow.Author.Rules.{rules}
 use Rattle.certificates.proofs.Certifying.{told-outside, told_fit, not-rotated, never-negative, rotated}
 use Rattle.certificates.proofs.rotation.Goals as goal
 

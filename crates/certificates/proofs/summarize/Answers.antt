@@ -1,5 +1,4 @@
 -- `certificates::summarize` meets its contract: the stamp tells whether a snapshot can be taken, and the parts are equal one by one (Summarizing).
-use borrow.Author.Rules.{rules}
 use Rattle.certificates.proofs.Summarizing.{rows-counted, live-counted, next-id-small, exhausted, taken}
 use Rattle.certificates.proofs.summarize.Goals as goal
 

@@ -2,9 +2,8 @@
 -- word far from its ends, which is what `plus` asks.
 use mathlib.Core.Path.{◌≡◌, sym, ◌∙◌, ap, ap₂, subst}
 use mathlib.Core.List.{List}
-use Prim.Native.Nat.{ℕ, ◌-◌, ◌≤◌, ◌<◌}
+use Prim.Native.Nat.{ℕ, ◌≤◌, ◌<◌}
 use native.Mathlib.Omega.{arith}
-use borrow.Author.Rules.{rules}
 use lib.IntN.{pos}
 use Rattle.rules.specs.RoomAndSoundLedger.{most_names}
 use Rattle.records.specs.Records.{sizes_of}
@@ -13,7 +12,7 @@ use Rattle.room.specs.Room.{IsRoom}
 use Rattle.room.proofs.SoundRoom.{sized}
 use Rattle.certificates.specs.Certified.{both_fitted}
 use Rattle.certificates.proofs.Adding.{may_add}
-use Rattle.certificates.proofs.OverPlaces.{initials, commits, PlacesAdded, places-none, places-next, places-all, AmountsSmall, amounts-small}
+use Rattle.certificates.proofs.OverPlaces.{initials, commits, places-none, places-next, places-all, AmountsSmall, amounts-small}
 use Rattle.certificates.proofs.totals_of_places.Lts as place
 use Rattle.certificates.proofs.totals_of_places.Tie as tie
 use Rattle.certificates.proofs.totals_of_places.Goals as goal

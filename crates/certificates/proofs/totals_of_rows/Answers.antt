@@ -2,18 +2,16 @@
 -- from its ends, which is what `plus` asks.
 use mathlib.Core.Path.{◌≡◌, sym, ◌∙◌, ap, ap₂, subst}
 use mathlib.Core.List.{List}
-use Prim.Native.Nat.{ℕ, ◌+◌, ◌-◌, ◌≤◌}
+use Prim.Native.Nat.{ℕ, ◌+◌, ◌≤◌}
 use native.Mathlib.Omega.{arith}
-use borrow.Author.Rules.{rules}
 use lib.ListN.{length, length-append}
-use Rattle.rules.specs.SnapshotsMigrationCertificates.{Row, most_rows}
+use Rattle.rules.specs.SnapshotsMigrationCertificates.{most_rows}
 use Rattle.big_endian.specs.Layout.{row_amounts}
-use Rattle.totals.specs.declared.Total.{Total}
-use Rattle.snapshot_reader.specs.Standing.{RowStands, Passed, OfSnapshot}
+use Rattle.snapshot_reader.specs.Standing.{RowStands, Passed}
 use Rattle.snapshot_reader.proofs.Header.{header}
 use Rattle.snapshot_reader.proofs.Rows.{Ends, start, stands, forward, advance, finished}
 use Rattle.certificates.specs.Certified.{both_fitted}
-use Rattle.certificates.proofs.Adding.{may_add, RowsAdded, rows_none, rows_next}
+use Rattle.certificates.proofs.Adding.{may_add, rows_none, rows_next}
 use Rattle.certificates.proofs.totals_of_rows.Lts as place
 use Rattle.certificates.proofs.totals_of_rows.Tie as tie
 use Rattle.certificates.proofs.totals_of_rows.Invariants.{BothAdded}
