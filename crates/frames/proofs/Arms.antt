@@ -2,17 +2,20 @@
 -- promised of the part's snapshot holds of the frame's operation (`on-supplied`). Frames that no arm names are told by their tags, one clause a frame.
 use mathlib.Core.Path.{◌≡◌, refl, sym, ap, subst, ◌∙◌}
 use mathlib.Core.List.{List, [], ◌∷◌}
+use mathlib.Core.Logic.{◌≢◌}
 use mathlib.Core.Option.{Option, none, some}
 use Prim.Native.Nat.{ℕ, ◌-◌, ◌≤◌}
 use native.Mathlib.Omega.{arith}
 use denote.Enum.Declared.{tag_of, declared}
-use types.Run.{OneOf, miss}
+use types.Run.{OneOf, hit, miss}
 use lib.ListN.{length, take, drop, length-drop}
 use lib.Seq.{take_all}
 use Rattle.rules.specs.AnswerNumbers.{Lent, unsound, UnsoundLedger, reply_of, Answered, answered, on_lent}
 use Rattle.rules.specs.SnapshotsMigrationCertificates.{Snapshot, snapshot_of_bytes}
 use Rattle.rules.specs.Frames.{Operation, on_account, take_snapshot, certify_ledger, prove_conservation, restore_from, recover_from, judge, migrate_to, certify, answer, answer_or23}
 use Rattle.rules.proofs.Tests.{by-option}
+use Rattle.numbers.specs.declared.Identifier.{Identifier}
+use Rattle.numbers.specs.declared.Microcents.{Microcents}
 use Rattle.snapshot_reader.specs.Standing.{IsSnapshot}
 use Rattle.frame_reader.specs.declared.Frame.{Frame}
 use Rattle.frame_reader.specs.declared.Frame.TheVariants as frame
@@ -105,6 +108,58 @@ lent_tags = 0 ∷ 1 ∷ 2 ∷ 3 ∷ 4 ∷ 5 ∷ 6 ∷ 7 ∷ 8 ∷ 10 ∷ 12 ∷ 
 
 abbrev unlent_tags : List ℕ
 unlent_tags = 9 ∷ 11 ∷ 13 ∷ 14 ∷ []
+
+-- as code finds a frame that no arm names: one that is none of theirs has one of the other tags
+pub is_short : (f : Frame) → f ≢ frame.Snapshot → ((fence : ℕ) → f ≢ frame.Migrate fence) → IsOneOf short_tags f
+is_short (frame.Ensure end amount) _ _ = hit short_tags 0 tt
+is_short (frame.TopUp end amount) _ _ = hit short_tags 1 tt
+is_short (frame.Limit end amount) _ _ = hit short_tags 2 tt
+is_short (frame.Reserve end amount) _ _ = hit short_tags 3 tt
+is_short (frame.Commit id amount) _ _ = hit short_tags 4 tt
+is_short (frame.Release id) _ _ = hit short_tags 5 tt
+is_short frame.Snapshot other _ = absurd (other refl)
+is_short frame.Restore _ _ = hit short_tags 7 tt
+is_short frame.RecoveryRestore _ _ = hit short_tags 8 tt
+is_short (frame.Migrate fence) _ other = absurd (other fence refl)
+is_short frame.Certificate _ _ = hit short_tags 10 tt
+is_short (frame.CertificateOfSnapshot since) _ _ = hit short_tags 11 tt
+is_short frame.ConservationProof _ _ = hit short_tags 12 tt
+is_short frame.Status _ _ = hit short_tags 13 tt
+is_short frame.BadFrame _ _ = hit short_tags 14 tt
+
+pub is_lent : (f : Frame) → ((fence : ℕ) → f ≢ frame.Migrate fence) → ((since : Microcents) → f ≢ frame.CertificateOfSnapshot since) → f ≢ frame.Status → f ≢ frame.BadFrame → IsOneOf lent_tags f
+is_lent (frame.Ensure end amount) _ _ _ _ = hit lent_tags 0 tt
+is_lent (frame.TopUp end amount) _ _ _ _ = hit lent_tags 1 tt
+is_lent (frame.Limit end amount) _ _ _ _ = hit lent_tags 2 tt
+is_lent (frame.Reserve end amount) _ _ _ _ = hit lent_tags 3 tt
+is_lent (frame.Commit id amount) _ _ _ _ = hit lent_tags 4 tt
+is_lent (frame.Release id) _ _ _ _ = hit lent_tags 5 tt
+is_lent frame.Snapshot _ _ _ _ = hit lent_tags 6 tt
+is_lent frame.Restore _ _ _ _ = hit lent_tags 7 tt
+is_lent frame.RecoveryRestore _ _ _ _ = hit lent_tags 8 tt
+is_lent (frame.Migrate fence) other _ _ _ = absurd (other fence refl)
+is_lent frame.Certificate _ _ _ _ = hit lent_tags 10 tt
+is_lent (frame.CertificateOfSnapshot since) _ other _ _ = absurd (other since refl)
+is_lent frame.ConservationProof _ _ _ _ = hit lent_tags 12 tt
+is_lent frame.Status _ _ other _ = absurd (other refl)
+is_lent frame.BadFrame _ _ _ other = absurd (other refl)
+
+pub is_unlent : (f : Frame) → ((end : ℕ) (amount : Microcents) → f ≢ frame.Ensure end amount) → ((end : ℕ) (amount : Microcents) → f ≢ frame.TopUp end amount) → ((end : ℕ) (amount : Microcents) → f ≢ frame.Limit end amount) → ((end : ℕ) (amount : Microcents) → f ≢ frame.Reserve end amount) → ((id : Identifier) (amount : Microcents) → f ≢ frame.Commit id amount) → ((id : Identifier) → f ≢ frame.Release id) → f ≢ frame.Snapshot → f ≢ frame.Restore → f ≢ frame.RecoveryRestore → f ≢ frame.Certificate → f ≢ frame.ConservationProof → IsOneOf unlent_tags f
+is_unlent (frame.Ensure end amount) other _ _ _ _ _ _ _ _ _ _ = absurd (other end amount refl)
+is_unlent (frame.TopUp end amount) _ other _ _ _ _ _ _ _ _ _ = absurd (other end amount refl)
+is_unlent (frame.Limit end amount) _ _ other _ _ _ _ _ _ _ _ = absurd (other end amount refl)
+is_unlent (frame.Reserve end amount) _ _ _ other _ _ _ _ _ _ _ = absurd (other end amount refl)
+is_unlent (frame.Commit id amount) _ _ _ _ other _ _ _ _ _ _ = absurd (other id amount refl)
+is_unlent (frame.Release id) _ _ _ _ _ other _ _ _ _ _ = absurd (other id refl)
+is_unlent frame.Snapshot _ _ _ _ _ _ other _ _ _ _ = absurd (other refl)
+is_unlent frame.Restore _ _ _ _ _ _ _ other _ _ _ = absurd (other refl)
+is_unlent frame.RecoveryRestore _ _ _ _ _ _ _ _ other _ _ = absurd (other refl)
+is_unlent (frame.Migrate fence) _ _ _ _ _ _ _ _ _ _ _ = hit unlent_tags 9 tt
+is_unlent frame.Certificate _ _ _ _ _ _ _ _ _ other _ = absurd (other refl)
+is_unlent (frame.CertificateOfSnapshot since) _ _ _ _ _ _ _ _ _ _ _ = hit unlent_tags 11 tt
+is_unlent frame.ConservationProof _ _ _ _ _ _ _ _ _ _ other = absurd (other refl)
+is_unlent frame.Status _ _ _ _ _ _ _ _ _ _ _ = hit unlent_tags 13 tt
+is_unlent frame.BadFrame _ _ _ _ _ _ _ _ _ _ _ = hit unlent_tags 14 tt
 
 module _ (bs : List ℕ) where
   -- the room of an operation on a snapshot that is not handed out

@@ -3,12 +3,13 @@
 use mathlib.Core.Path.{◌≡◌, refl, sym, ap, ◌∙◌}
 use mathlib.Core.Bool.{false}
 use mathlib.Core.List.{List, [], ◌∷◌}
+use mathlib.Core.Logic.{◌≢◌}
 use mathlib.Core.Option.{Option, none, some}
 use Prim.Native.Nat.{ℕ, ◌≤◌}
 use native.Mathlib.Omega.{arith}
 use borrow.Author.Tests.{ltb-false, le-ltb}
 use denote.Enum.Declared.{tag_of, declared}
-use types.Run.{OneOf, miss}
+use types.Run.{OneOf, hit, miss}
 use lib.Dec.{eqb}
 use lib.ListN.{length}
 use Rattle.rules.specs.RoomAndSoundLedger.{M, Ledger, Sound}
@@ -61,6 +62,13 @@ at-most-nine L known = rw (own-snapshot-has-room L known) (by-test (λ (o : Outc
 
 abbrev other_tags : List ℕ
 other_tags = 1 ∷ 2 ∷ 3 ∷ []
+
+-- as code finds it: one that is not `Written` has one of the other tags
+pub not_written : (r : Snapshotted) → ((size : ℕ) → r ≢ snapshotted.Written size) → OneOf other_tags (tag_of (declared enum) r)
+not_written (snapshotted.Written size) other = absurd (other size refl)
+not_written snapshotted.AllocatorExhausted other = hit other_tags 1 tt
+not_written snapshotted.OutputTooShort other = hit other_tags 2 tt
+not_written snapshotted.UnsoundLedger other = hit other_tags 3 tt
 
 pub exhausted : (L : Ledger) → Sound L → (output : List ℕ) (r : Snapshotted) → OneOf other_tags (tag_of (declared enum) r) → snapshot_reply output r ≡ (snapshot longest_snapshot L).reply
     → snapshot_reply output r ≡ reply_of AllocatorExhausted

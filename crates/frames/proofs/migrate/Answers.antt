@@ -15,6 +15,7 @@ use Rattle.rules.specs.Frames.{longest_snapshot}
 use Rattle.rules.proofs.SnapshotBytes.{snapshot-only}
 use Rattle.numbers.proofs.Bytes.{all-bytes}
 use Rattle.names.specs.Names.{spelled}
+use Rattle.validation.proofs.Deciding.{not_done}
 use Rattle.validation.specs.Judgement.{refusal_of, refusal_in, judged_reply}
 use Rattle.answer_bytes.specs.Writing.{WritesReply}
 use Rattle.answer_bytes.proofs.Arms.{matched}
@@ -28,10 +29,10 @@ use Rattle.frames.proofs.migrate.Tie as tie
 use Rattle.frames.proofs.migrate.Goals as goal
 
 abbrev Start : Type 0
-Start = place.Start tie.the-claims tie.handed_pre tie.handed_post
+Start = place.Start tie.the-claims tie.handed_pre tie.handed_post tie.handed_clauses
 
 abbrev After-migrate-judged : Type 0
-After-migrate-judged = place.After-migrate tie.the-claims tie.handed_pre tie.handed_post
+After-migrate-judged = place.After-migrate tie.the-claims tie.handed_pre tie.handed_post tie.handed_clauses
 
 module _ (c : After-migrate-judged) where
   abbrev start : Start
@@ -58,9 +59,9 @@ module _ (c : After-migrate-judged) where
 pub returns-in_default : goal.returns-in_default
 returns-in_default c s e =
     let j = c.migrate-judged.result in
-    let refused = is-refused (spelled j.name) j.verdict c.in-Done.keys2 in
+    let refused = is-refused (spelled j.name) j.verdict (not_done j.verdict c.in_default.not-Done) in
     matched (sym (same_answer refused _ _ ∙ answers c.before.before.before.before.before.before.before.before s e))
-    (subst (λ before. WritesReply (judged_reply j) before c.write_judged.new.output c.write_judged.result) (part-back (output c.before.before.before.before.before.before.before.before) (c.migrate-judged.ensures.output.0 ∙ untouched refused _ _)) c.write_judged.ensures)
+    (subst (λ before. WritesReply (judged_reply j) before c.write_judged.new.output c.write_judged.result) (part-back (output c.before.before.before.before.before.before.before.before) (c.migrate-judged.ensures.output ∙ untouched refused _ _)) c.write_judged.ensures)
 
 pub returns : goal.returns
 unfolding reply_or
@@ -72,5 +73,5 @@ returns c s e =
     let answer : Option Refusal → Reply = λ o. reply_or o (done (SnapshotBytes handed ∷ [])) in
     let is_done : done (SnapshotBytes handed ∷ []) ≡ migrate longest_snapshot (start c.before.before.before.before.before.before.before.before).args.fence s = ap answer (sym passes) ∙ answers c.before.before.before.before.before.before.before.before s e in
     let size : length handed ≡ length (bytes c.before.before.before.before.before.before.before.before) = ap length (hands_out longest_snapshot (start c.before.before.before.before.before.before.before.before).args.fence s handed is_done) ∙ migrated-length (bytes c.before.before.before.before.before.before.before.before) (all_known c.before.before.before.before.before.before.before.before) s e (tagged (start c.before.before.before.before.before.before.before.before).args.fence) in
-    let kept : after c.before.before.before.before.before.before.before.before ≡ handed ++ drop (length handed) (part (output c.before.before.before.before.before.before.before.before)) = c.migrate-judged.ensures.output.0 ∙ ap (λ o. output_after (answer o) (part (output c.before.before.before.before.before.before.before.before))) passes in
+    let kept : after c.before.before.before.before.before.before.before.before ≡ handed ++ drop (length handed) (part (output c.before.before.before.before.before.before.before.before)) = c.migrate-judged.ensures.output ∙ ap (λ o. output_after (answer o) (part (output c.before.before.before.before.before.before.before.before))) passes in
     matched (sym is_done) (number-before (output c.before.before.before.before.before.before.before.before) room handed size kept c.write1.ensures)

@@ -15,7 +15,7 @@ use Rattle.frame_reader.specs.declared.Frame.{Frame}
 use Rattle.frame_reader.specs.Operations.{operation_in, StandsFrom, PartsWithin}
 use Rattle.answer_bytes.specs.Sizes.{longest_other_answer}
 use Rattle.frames.specs.Answering.{AnswersOperation, room_for}
-use Rattle.frames.proofs.Arms.{is-snapshot, answers-supplied, room-bounds, takes_none, left_alone}
+use Rattle.frames.proofs.Arms.{is-snapshot, answers-supplied, room-bounds, is_unlent, takes_none, left_alone}
 use Rattle.frames.proofs.perform.Lts as place
 use Rattle.frames.proofs.perform.Tie as tie
 use Rattle.frames.proofs.perform.Goals as goal
@@ -69,7 +69,7 @@ returns-in-RecoveryRestore c L room =
 
 pub returns-in_default : goal.returns-in_default
 returns-in_default c L is_room =
-    left_alone (takes_none (bytes c.before.before.before.before.before.before) (sound L) (start c.before.before.before.before.before.before).args.frame c.in-Ensure.keys12) is_room c.without_ledger.ensures
+    left_alone (takes_none (bytes c.before.before.before.before.before.before) (sound L) (start c.before.before.before.before.before.before).args.frame (let other = c.in_default in is_unlent _ other.not-Ensure other.not-TopUp other.not-Limit other.not-Reserve other.not-Commit other.not-Release other.not-Snapshot other.not-Restore other.not-RecoveryRestore other.not-Certificate other.not-ConservationProof)) is_room c.without_ledger.ensures
 
 pub slice_bounds-ensure-count : goal.slice_bounds-ensure-count
 slice_bounds-ensure-count c = (parts c.before.before.before c.in-Ensure.is).0

@@ -5,7 +5,7 @@ use borrow.Author.Rules.{rules}
 use Rattle.rules.specs.Frames.{migrate_to}
 use Rattle.frame_reader.specs.Operations.{operation_in, PartsWithin}
 use Rattle.frames.specs.Answering.{room_for}
-use Rattle.frames.proofs.Arms.{supplied-is, short-answer}
+use Rattle.frames.proofs.Arms.{supplied-is, is_short, short-answer}
 use Rattle.frames.proofs.room_for.Goals as goal
 
 pub returns-in-Snapshot : goal.returns-in-Snapshot
@@ -17,4 +17,4 @@ returns-in-Migrate c bs within =
     sym (ap (λ f. room_for (operation_in bs f)) is ∙ ap room_for (supplied-is (subst (PartsWithin bs) is within) (migrate_to _)))
 
 pub returns-in_default : goal.returns-in_default
-returns-in_default c bs within = short-answer bs c.args.frame c.in-Snapshot.keys3
+returns-in_default c bs within = short-answer bs c.args.frame (is_short c.args.frame c.in_default.not-Snapshot c.in_default.not-Migrate)

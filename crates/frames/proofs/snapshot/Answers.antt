@@ -17,16 +17,16 @@ use Rattle.snapshot_writer.specs.Output.{snapshot_reply, SizeWithin}
 use Rattle.snapshot_writer.specs.declared.Snapshotted.TheVariants as snapshotted
 use Rattle.frames.proofs.Performing.{performed}
 use Rattle.frames.proofs.BehindTheNumber.{part, part-back, part_length, number-before}
-use Rattle.frames.proofs.RoomForSnapshots.{same-snapshot, exhausted}
+use Rattle.frames.proofs.RoomForSnapshots.{same-snapshot, not_written, exhausted}
 use Rattle.frames.proofs.snapshot.Lts as place
 use Rattle.frames.proofs.snapshot.Tie as tie
 use Rattle.frames.proofs.snapshot.Goals as goal
 
 abbrev Start : Type 0
-Start = place.Start tie.the-claims tie.handed_pre tie.handed_post
+Start = place.Start tie.the-claims tie.handed_pre tie.handed_post tie.handed_clauses
 
 abbrev After-snapshot : Type 0
-After-snapshot = place.After-snapshot tie.the-claims tie.handed_pre tie.handed_post
+After-snapshot = place.After-snapshot tie.the-claims tie.handed_pre tie.handed_post tie.handed_clauses
 
 module _ (c : After-snapshot) where
   abbrev start : Start
@@ -49,14 +49,14 @@ module _ (c : After-snapshot) where
       record { answer = given.answer ∙ ap (λ (o : Outcome). o.reply) same; room = subst (λ (o : Outcome). IsRoom c.snapshot.new.room o.ledger) same given.room }
 
   within : {size : ℕ} → c.snapshot.result ≡ snapshotted.Written size → 1 + size ≤ length output
-  within is = let fits = subst (SizeWithin (length (part output))) is c.snapshot.ensures.output.1 in omega (arith, fits, part_length output room, room)
+  within is = let fits = subst (SizeWithin (length (part output))) is c.snapshot.ensures.size in omega (arith, fits, part_length output room, room)
 
 pub returns-in_default : goal.returns-in_default
 unfolding answer
 returns-in_default c L is_room =
     let r = c.snapshot.result in
-    let is = exhausted L is_room.sound (after c.before.before.before.before.before.before.before.before.before.before) r c.in-Written.keys2 (performs c.before.before.before.before.before.before.before.before.before.before L is_room).answer in
-    let back = part-back (output c.before.before.before.before.before.before.before.before.before.before) (c.snapshot.ensures.output.0 ∙ ap (λ x. output_after x (part (output c.before.before.before.before.before.before.before.before.before.before))) is) in
+    let is = exhausted L is_room.sound (after c.before.before.before.before.before.before.before.before.before.before) r (not_written r c.in_default.not-Written) (performs c.before.before.before.before.before.before.before.before.before.before L is_room).answer in
+    let back = part-back (output c.before.before.before.before.before.before.before.before.before.before) (c.snapshot.ensures.output ∙ ap (λ x. output_after x (part (output c.before.before.before.before.before.before.before.before.before.before))) is) in
     performed (subst (λ x. Performed (snapshot longest_snapshot) L x c.snapshot.new.room) is (performs c.before.before.before.before.before.before.before.before.before.before L is_room))
     (subst (λ before. WritesReply (reply_of AllocatorExhausted) before c.write_number.new.output c.write_number.result) back c.write_number.ensures) refl
 
@@ -71,7 +71,7 @@ returns c L is_room =
     let size = c.in-Written.size in
     let is : c.snapshot.result ≡ snapshotted.Written size = c.in-Written.is in
     let handed = take size (after c.before.before.before.before.before.before.before.before.before.before) in
-    let long : length handed ≡ size = length-take-le size (after c.before.before.before.before.before.before.before.before.before.before) (omega (arith, within c.before.before.before.before.before.before.before.before.before.before is, c.snapshot.auto, part_length (output c.before.before.before.before.before.before.before.before.before.before) (room c.before.before.before.before.before.before.before.before.before.before))) in
-    let kept = c.snapshot.ensures.output.0 ∙ ap (λ x. output_after (snapshot_reply (after c.before.before.before.before.before.before.before.before.before.before) x) (part (output c.before.before.before.before.before.before.before.before.before.before))) is in
+    let long : length handed ≡ size = length-take-le size (after c.before.before.before.before.before.before.before.before.before.before) (omega (arith, within c.before.before.before.before.before.before.before.before.before.before is, c.snapshot.auto.output, part_length (output c.before.before.before.before.before.before.before.before.before.before) (room c.before.before.before.before.before.before.before.before.before.before))) in
+    let kept = c.snapshot.ensures.output ∙ ap (λ x. output_after (snapshot_reply (after c.before.before.before.before.before.before.before.before.before.before) x) (part (output c.before.before.before.before.before.before.before.before.before.before))) is in
     performed (subst (λ x. Performed (snapshot longest_snapshot) L (snapshot_reply (after c.before.before.before.before.before.before.before.before.before.before) x) c.snapshot.new.room) is (performs c.before.before.before.before.before.before.before.before.before.before L is_room))
     (number-before (output c.before.before.before.before.before.before.before.before.before.before) (room c.before.before.before.before.before.before.before.before.before.before) handed long kept c.write1.ensures) refl

@@ -14,7 +14,7 @@ use Rattle.answer_bytes.specs.Sizes.{longest_other_answer}
 use Rattle.answer_bytes.specs.Writing.{WritesReply}
 use Rattle.answer_bytes.proofs.Arms.{matched}
 use Rattle.frames.specs.Answering.{room_for}
-use Rattle.frames.proofs.Arms.{is-snapshot, supplied-is, writes-supplied, room-bounds, refuses}
+use Rattle.frames.proofs.Arms.{is-snapshot, supplied-is, writes-supplied, room-bounds, is_lent, refuses}
 use Rattle.frames.proofs.without_ledger.Lts as place
 use Rattle.frames.proofs.without_ledger.Tie as tie
 use Rattle.frames.proofs.without_ledger.Goals as goal
@@ -81,7 +81,7 @@ returns-in-BadFrame c = told c.before.before.before.before.before.before c.in-Ba
 pub returns-in_default : goal.returns-in_default
 returns-in_default c =
     let entry = start c.before.before.before.before.before.before in
-    matched (refuses (bytes c.before.before.before.before.before.before) entry.args.frame c.in-Migrate.keys5 entry.requires.0) c.write_number-in_default.ensures
+    matched (refuses (bytes c.before.before.before.before.before.before) entry.args.frame (is_lent entry.args.frame c.in_default.not-Migrate c.in_default.not-CertificateOfSnapshot c.in_default.not-Status c.in_default.not-BadFrame) entry.requires.0) c.write_number-in_default.ensures
 
 pub slice_bounds-migrate-count : goal.slice_bounds-migrate-count
 slice_bounds-migrate-count c = (parts c.before.before c.in-Migrate.is).within

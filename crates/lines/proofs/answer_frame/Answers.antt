@@ -17,13 +17,13 @@ use Rattle.lines.proofs.answer_frame.Tie as tie
 use Rattle.lines.proofs.answer_frame.Goals as goal
 
 abbrev Start : Type 0
-Start = place.Start tie.the-claims tie.handed_pre tie.handed_post
+Start = place.Start tie.the-claims tie.handed_pre tie.handed_post tie.handed_clauses
 
 abbrev After-room_for-needed : Type 0
-After-room_for-needed = place.After-room_for tie.the-claims tie.handed_pre tie.handed_post
+After-room_for-needed = place.After-room_for tie.the-claims tie.handed_pre tie.handed_post tie.handed_clauses
 
 abbrev After-answer-size : Type 0
-After-answer-size = place.After-answer tie.the-claims tie.handed_pre tie.handed_post
+After-answer-size = place.After-answer tie.the-claims tie.handed_pre tie.handed_post tie.handed_clauses
 
 -- the frame read is the bytes' operation, and its room is known
 module _ (c : After-room_for-needed) where
@@ -85,7 +85,8 @@ slice_bounds-answer-end-2 c =
 pub answer-size-requires : goal.answer-size-requires
 answer-size-requires c =
     let read = c.read-frame in
-    ((start c.before.before.before.before).requires, (read.ensures.parts, omega (arith, slice_bounds-answer-end-2 c.before, c.room_for-needed.ensures (start c.before.before.before.before).args.bytes.now read.ensures.parts)))
+    let long = length-take-le c.room_for-needed.result (start c.before.before.before.before).args.output.now (omega (arith, c.if-output-needed.false)) in
+    ((start c.before.before.before.before).requires, (read.ensures.parts, omega (arith, long, c.room_for-needed.ensures (start c.before.before.before.before).args.bytes.now read.ensures.parts)))
 
 pub finish-requires : goal.finish-requires
 finish-requires c =

@@ -49,7 +49,7 @@ pub slice_bounds-answer_frame-end : goal.slice_bounds-answer_frame-end
 slice_bounds-answer_frame-end c = (front c.before.before.before.before.before c.in-Bytes.is).within
 
 pub slice_bounds-answer_frame-end-2 : goal.slice_bounds-answer_frame-end-2
-slice_bounds-answer_frame-end-2 c = sym (length-take-le c.in-Bytes.size (work c.before.before.before.before.before) (slice_bounds-answer_frame-end c.before))
+slice_bounds-answer_frame-end-2 c = sym (length-take-le c.in-Bytes.size (work c.before.before.before.before.before) (front c.before.before.before.before.before c.in-Bytes.is).within)
 
 pub returns : goal.returns
 returns c l is_lent =

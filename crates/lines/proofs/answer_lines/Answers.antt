@@ -23,19 +23,19 @@ use Rattle.lines.proofs.answer_lines.Tie as tie
 use Rattle.lines.proofs.answer_lines.Goals as goal
 
 abbrev Start : Type 0
-Start = place.Start tie.the-claims tie.handed_pre tie.handed_post goal.the-invariant-loop-used goal.the-decreases-loop-used
+Start = place.Start tie.the-claims tie.handed_pre tie.handed_post goal.the-invariant-loop-used goal.the-decreases-loop-used tie.handed_clauses
 
 abbrev At-loop-used : Type 0
-At-loop-used = place.At-loop tie.the-claims tie.handed_pre tie.handed_post goal.the-invariant-loop-used goal.the-decreases-loop-used
+At-loop-used = place.At-loop tie.the-claims tie.handed_pre tie.handed_post goal.the-invariant-loop-used goal.the-decreases-loop-used tie.handed_clauses
 
 abbrev After-answer_next : Type 0
-After-answer_next = place.After-answer_next tie.the-claims tie.handed_pre tie.handed_post goal.the-invariant-loop-used goal.the-decreases-loop-used
+After-answer_next = place.After-answer_next tie.the-claims tie.handed_pre tie.handed_post goal.the-invariant-loop-used goal.the-decreases-loop-used tie.handed_clauses
 
 abbrev In-Answered : Type 0
-In-Answered = place.Past-After-known_told tie.the-claims tie.handed_pre tie.handed_post goal.the-invariant-loop-used goal.the-decreases-loop-used
+In-Answered = place.Past-After-known_told tie.the-claims tie.handed_pre tie.handed_post goal.the-invariant-loop-used goal.the-decreases-loop-used tie.handed_clauses
 
 abbrev In_default : Type 0
-In_default = place.Past-After-enum_told tie.the-claims tie.handed_pre tie.handed_post goal.the-invariant-loop-used goal.the-decreases-loop-used
+In_default = place.Past-After-enum_told tie.the-claims tie.handed_pre tie.handed_post goal.the-invariant-loop-used goal.the-decreases-loop-used tie.handed_clauses
 
 abbrev entry : At-loop-used → Start
 entry l = l.before.before.before.before.before
@@ -84,7 +84,7 @@ asked c = c.before.before.before.before.before.before.before
 pub returns-in_default : goal.returns-in_default
 returns-in_default c =
     let a = asked c.before in
-    let o = (turn-of a).loop-used in record { batches = λ l is. stopped (after a) (part-after a) (o.inv.6 l is) o.inv.2 (promise a next.Stopped c.in_default.is); within = passed (turn-of a) }
+    let o = (turn-of a).loop-used in record { batches = λ l is. stopped (after a) (part-after a) (o.invariant.6 l is) o.invariant.2 (promise a next.Stopped c.in_default.is); within = passed (turn-of a) }
 
 -- ── answered ───────────────────────────────────────────────────────────────────────────────────
 
@@ -105,13 +105,13 @@ module _ (c : In-Answered) where
   promised = promise answer (next.Answered end size) c.in-Answered.is
 
   used-within : (turn-of answer).loop-used.used + (end + 1) ≤ length (entry (turn-of answer)).args.input.now
-  used-within = let o = (turn-of answer).loop-used in omega (arith, first.inside, length-drop o.used (entry (turn-of answer)).args.input.now, o.inv.0)
+  used-within = let o = (turn-of answer).loop-used in omega (arith, first.inside, length-drop o.used (entry (turn-of answer)).args.input.now, o.invariant.0)
 
   written-fits : (turn-of answer).loop-used.written + size ≤ length (turn-of answer).loop-used.output
   written-fits =
       let o = (turn-of answer).loop-used in
-      let lent = some-lent (entry (turn-of answer)).args.known o.inv.5 in
-      omega (arith, written-within (promised lent.lent lent.is_lent).1 (part-kept answer), part_length o.written o.output, o.inv.1)
+      let lent = some-lent (entry (turn-of answer)).args.known o.invariant.5 in
+      omega (arith, written-within (promised lent.lent lent.is_lent).1 (part-kept answer), part_length o.written o.output, o.invariant.1)
 
 pub loop-used-preserved : goal.loop-used-preserved
 loop-used-preserved c =
@@ -120,14 +120,14 @@ loop-used-preserved c =
     let known = (entry (turn-of a)).args.known in
     let left = length o.output - o.written in
     let kept : length (put o.written left o.output (part-after a)) ≡ length o.output =
-    put-length o.written left o.output (part-after a) (omega (arith, o.inv.1)) (part-kept a ∙ part_length o.written o.output) in (
+    put-length o.written left o.output (part-after a) (omega (arith, o.invariant.1)) (part-kept a ∙ part_length o.written o.output) in (
       omega (arith, used-within c.before),
       omega (arith, written-fits c.before, kept),
-      kept ∙ o.inv.2,
-      c.room-1.given ∙ o.inv.3,
-      c.work-1.given ∙ o.inv.4,
-      stays-known known (operation_of_line (take (end c.before) (rest a))) o.room (after a) (part a) (part-after a) (size c.before) o.inv.5 (promised c.before),
-      λ l is. turn (after a) (part-after a) (end c.before) (size c.before) (o.inv.6 l is) (first c.before) (promised c.before),
+      kept ∙ o.invariant.2,
+      c.room-1.given ∙ o.invariant.3,
+      c.work-1.given ∙ o.invariant.4,
+      stays-known known (operation_of_line (take (end c.before) (rest a))) o.room (after a) (part a) (part-after a) (size c.before) o.invariant.5 (promised c.before),
+      λ l is. turn (after a) (part-after a) (end c.before) (size c.before) (o.invariant.6 l is) (first c.before) (promised c.before),
     )
 
 pub returns : goal.returns

@@ -23,7 +23,7 @@ use Rattle.lines.proofs.answer_lines.Given as goal
 abbrev pub invariant-loop-used : goal.invariant-loop-used
 invariant-loop-used l =
     (l.used ≤ length l.input) × (l.written ≤ length l.output) × (length l.output ≡ length l.initial.output) × (length l.room ≡ length l.initial.room) × (length l.work ≡ length l.initial.work) × Known l.known l.room
-    × ((l : Lent) → IsLent l.initial.room l → Underway l l.input l.initial.room l.room l.initial.output l.output l.used l.written)
+    × ((lent : Lent) → IsLent l.initial.room lent → Underway lent l.input l.initial.room l.room l.initial.output l.output l.used l.written)
 
 abbrev pub decreases-loop-used : goal.decreases-loop-used
 decreases-loop-used l = length l.input - l.used

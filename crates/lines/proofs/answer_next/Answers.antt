@@ -19,19 +19,19 @@ use Rattle.lines.proofs.answer_next.Tie as tie
 use Rattle.lines.proofs.answer_next.Goals as goal
 
 abbrev Start : Type 0
-Start = place.Start tie.the-claims tie.handed_pre tie.handed_post
+Start = place.Start tie.the-claims tie.handed_pre tie.handed_post tie.handed_clauses
 
 abbrev After-front_limit-limit : Type 0
-After-front_limit-limit = place.After-front_limit tie.the-claims tie.handed_pre tie.handed_post
+After-front_limit-limit = place.After-front_limit tie.the-claims tie.handed_pre tie.handed_post tie.handed_clauses
 
 abbrev After-front_bytes-size : Type 0
-After-front_bytes-size = place.After-front_bytes tie.the-claims tie.handed_pre tie.handed_post
+After-front_bytes-size = place.After-front_bytes tie.the-claims tie.handed_pre tie.handed_post tie.handed_clauses
 
 abbrev After-line_end : Type 0
-After-line_end = place.After-line_end tie.the-claims tie.handed_pre tie.handed_post
+After-line_end = place.After-line_end tie.the-claims tie.handed_pre tie.handed_post tie.handed_clauses
 
 abbrev In-At : Type 0
-In-At = place.Past-After-known_told tie.the-claims tie.handed_pre tie.handed_post
+In-At = place.Past-After-known_told tie.the-claims tie.handed_pre tie.handed_post tie.handed_clauses
 
 module _ (c : After-front_limit-limit) where
   abbrev start : Start
@@ -94,9 +94,9 @@ returns-then-from-end c =
     let r = read c.before.before.before.before.before.before.before in
     let s = shortened r in
     let g = (start s).args in
-    told (input s) g.room.now g.room.now g.output.now c.answer_no_frame.new.output (end c.before.before.before.before.before.before.before) (first c.before.before.before.before.before.before.before) none c.answer_no_frame.result c.next_at.ensures
+    let both = told (input s) g.room.now g.room.now g.output.now c.answer_no_frame.new.output (end c.before.before.before.before.before.before.before) (first c.before.before.before.before.before.before.before) none c.answer_no_frame.result c.next_at.ensures
     (no_frame (input s) (limit s) s.front_limit-limit.ensures.0 (front r) s.front_limit-limit.ensures.2 (end c.before.before.before.before.before.before.before) c.if-from-end.true (omega (arith, (first c.before.before.before.before.before.before.before).inside)))
-    (c.answer_no_frame.ensures g.room.now)
+    (c.answer_no_frame.ensures g.room.now) in record { found = both.0; answered = both.1 }
 
 pub slice_bounds-answer_frame-end-2 : goal.slice_bounds-answer_frame-end-2
 slice_bounds-answer_frame-end-2 c = let r = read c.before.before.before in sym (length-take-le (size r) (bytes r) (front r).fits)
@@ -107,6 +107,6 @@ returns c =
     let s = shortened r in
     let g = (start s).args in
     let here : end c.before.before.before.before.before.before.before.before.before.before ≡ size r + size r = omega (arith, (found_at c.before.before.before.before.before.before.before.before.before.before).0, c.if-from-end.false) in
-    told (input s) g.room.now c.answer_frame.new.room g.output.now c.answer_frame.new.output (end c.before.before.before.before.before.before.before.before.before.before) (first c.before.before.before.before.before.before.before.before.before.before) (operation_of_frame (take (size r) (bytes r))) c.answer_frame.result c.next_at-2.ensures
+    let both = told (input s) g.room.now c.answer_frame.new.room g.output.now c.answer_frame.new.output (end c.before.before.before.before.before.before.before.before.before.before) (first c.before.before.before.before.before.before.before.before.before.before) (operation_of_frame (take (size r) (bytes r))) c.answer_frame.result c.next_at-2.ensures
     (ap (λ n. operation_of_line (take n (input s))) here ∙ is-frame (input s) (limit s) s.front_limit-limit.ensures.0 (front r))
-    c.answer_frame.ensures
+    c.answer_frame.ensures in record { found = both.0; answered = both.1 }

@@ -1,7 +1,6 @@
 -- `snapshot_answers::write_certificate`: what `answer_bytes::write_certificate` promises, at the eight values of the certificate: an amount goes by its word
 -- (`word-is` of answer_bytes), a yes or no by its byte.
 use mathlib.Core.Path.{refl, sym, ap}
-use borrow.Author.Rules.{rules}
 use Rattle.rules.specs.SnapshotsMigrationCertificates.{bytes_of}
 use Rattle.answer_bytes.proofs.Arms.{word-is}
 use Rattle.snapshot_answers.proofs.write_certificate.Goals as goal

@@ -1,6 +1,5 @@
 -- `snapshot_answers::write_certified`: in each arm the answer is the case matched (`matched` of answer_bytes).
 use mathlib.Core.Path.{ap}
-use borrow.Author.Rules.{rules}
 use Rattle.answer_bytes.proofs.Arms.{matched}
 use Rattle.certificates.specs.Certified.{certified_reply}
 use Rattle.snapshot_answers.proofs.write_certified.Goals as goal

@@ -1,7 +1,6 @@
 -- `snapshot_answers::write_proof`: what `answer_bytes::write_proof` promises, at the six values of the proof: a total goes by its word (`word-is` of
 -- answer_bytes), and the last byte says yes.
 use mathlib.Core.Path.{refl}
-use borrow.Author.Rules.{rules}
 use Rattle.answer_bytes.proofs.Arms.{word-is}
 use Rattle.snapshot_answers.proofs.write_proof.Goals as goal
 
