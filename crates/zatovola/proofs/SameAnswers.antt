@@ -1,6 +1,6 @@
 -- What the contracts leave open: nothing, refusals included. One ledger has one room, and memory that is no room stays; an answer and a batch are fixed as
 -- those of crate lines are (`by-lent`).
-use mathlib.Core.Path.{◌≡◌, refl, sym, ap, ◌∙◌}
+use mathlib.Core.Path.{◌≡◌, sym, ◌∙◌}
 use mathlib.Core.Logic.{⊎_elim}
 use mathlib.Core.List.{List}
 use mathlib.Core.Option.{Option}

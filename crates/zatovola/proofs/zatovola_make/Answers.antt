@@ -1,6 +1,5 @@
 -- `zatovola::zatovola_make`: `make` has promised the rest, of the case that each arm matched.
-use mathlib.Core.Path.{sym, subst}
-use borrow.Author.Rules.{rules}
+use mathlib.Core.Path.{subst}
 use Rattle.rules.specs.RoomAndSoundLedger.{made}
 use Rattle.soundness.specs.Making.{made_in, Makes, made_reply}
 use Rattle.zatovola.proofs.zatovola_make.Goals as goal

@@ -6,4 +6,4 @@ use Rattle.zatovola.proofs.HandedOver.{amount-handed}
 use Rattle.zatovola.proofs.ledger_reads.hand_total.Goals as goal
 
 pub returns-in-Amount : goal.returns-in-Amount
-returns-in-Amount c = amount-handed _ c.struct_told-1.given.0.1 (ap total_reply (sym c.in-Amount.is))
+returns-in-Amount c = amount-handed c.in-Amount.amount.0 (search rules) (ap total_reply (sym c.in-Amount.is))

@@ -1,5 +1,4 @@
 -- `zatovola::zatovola_committed`: what the read has promised of its answer holds of the number and the place (`handed`).
-use borrow.Author.Rules.{rules}
 use Rattle.zatovola.proofs.HandedOver.{handed}
 use Rattle.zatovola.proofs.ledger_reads.zatovola_committed.Goals as goal
 

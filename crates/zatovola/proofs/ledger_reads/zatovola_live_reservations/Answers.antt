@@ -1,5 +1,4 @@
 -- `zatovola::zatovola_live_reservations`: what the read has promised of its answer holds of the number and the place (`handed`).
-use borrow.Author.Rules.{rules}
 use Rattle.zatovola.proofs.HandedOver.{handed}
 use Rattle.zatovola.proofs.ledger_reads.zatovola_live_reservations.Goals as goal
 

@@ -1,5 +1,4 @@
 -- `zatovola::zatovola_write_answer`: the answer as a line, handed over as a number and a place (`handed`).
-use borrow.Author.Rules.{rules}
 use Rattle.zatovola.proofs.RecorderCalls.{handed}
 use Rattle.zatovola.proofs.recorder_calls.zatovola_write_answer.Goals as goal
 
