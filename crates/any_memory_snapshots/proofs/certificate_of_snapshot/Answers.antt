@@ -1,7 +1,6 @@
 -- `any_memory_snapshots::certificate_of_snapshot` meets its contract: 23 where the bytes are no snapshot, and else what `certificates` promises of one
 -- (Supplied).
 use mathlib.Core.Path.{refl}
-use borrow.Author.Rules.{rules}
 use Rattle.rules.specs.SnapshotsMigrationCertificates.{certificate_of_snapshot}
 use Rattle.any_memory_snapshots.proofs.Supplied.{is-snapshot, bad-judged, judged}
 use Rattle.any_memory_snapshots.proofs.certificate_of_snapshot.Goals as goal

@@ -1,7 +1,6 @@
 -- `any_memory_snapshots::first_check` meets its contract: whether the bytes are a snapshot is decided first, and only then whether the memory is sound.
 use mathlib.Core.Path.{refl}
 use mathlib.Core.Logic.{inl, inr}
-use borrow.Author.Rules.{rules}
 use borrow.Author.Tests.{not-true, not-false}
 use Rattle.any_memory_snapshots.proofs.Supplied.{no-snapshot, some_read}
 use Rattle.any_memory_snapshots.proofs.first_check.Goals as goal

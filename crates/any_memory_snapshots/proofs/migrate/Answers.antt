@@ -1,7 +1,6 @@
 -- `any_memory_snapshots::migrate` meets its contract: 23 where the bytes are no snapshot, with the output as it was, and else what `migration` promises of
 -- one (Supplied).
 use mathlib.Core.Path.{sym, ap}
-use borrow.Author.Rules.{rules}
 use lib.ListN.{length}
 use Rattle.rules.specs.SnapshotsMigrationCertificates.{output_after, reply_or, migrate}
 use Rattle.validation.proofs.StoredForm.{nameless-form}
@@ -13,10 +12,12 @@ pub returns-then-not-is_snapshot : goal.returns-then-not-is_snapshot
 unfolding reply_or
 returns-then-not-is_snapshot c =
     let size = length c.args.bytes.now in
-    let output = c.args.output.now in (
-      bad-judged _ _ c.is_snapshot.ensures (migrate _ _) _ c.if-not-is_snapshot.true-raw (ap (migrated_reply size output) c.nameless.ensures),
-      (ap (λ j. output_after (migrated_reply size output j) output) (sym c.nameless.ensures), nameless-form c.nameless.ensures),
-    )
+    let output = c.args.output.now in
+    record {
+      answer = bad-judged _ _ c.is_snapshot.ensures (migrate _ _) _ c.if-not-is_snapshot.true-raw (ap (migrated_reply size output) c.nameless.ensures);
+      output = ap (λ j. output_after (migrated_reply size output j) output) (sym c.nameless.ensures);
+      form = nameless-form c.nameless.ensures;
+    }
 
 pub migrate-requires : goal.migrate-requires
 migrate-requires c = is-snapshot _ _ c.is_snapshot.ensures c.if-not-is_snapshot.false-raw
@@ -24,4 +25,8 @@ migrate-requires c = is-snapshot _ _ c.is_snapshot.ensures c.if-not-is_snapshot.
 pub returns : goal.returns
 returns c =
     let made = c.migrate in
-    (judged _ _ c.is_snapshot.ensures (migrate _ _) _ c.if-not-is_snapshot.false-raw made.ensures.answer, made.ensures.output)
+    record {
+      answer = judged _ _ c.is_snapshot.ensures (migrate _ _) _ c.if-not-is_snapshot.false-raw made.ensures.answer;
+      output = made.ensures.output;
+      form = made.ensures.form;
+    }

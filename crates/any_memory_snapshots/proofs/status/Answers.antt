@@ -1,6 +1,5 @@
 -- `any_memory_snapshots::status` meets its contract: 23 where the bytes are no snapshot, and else what `validation` promises of one (Supplied).
 use mathlib.Core.Path.{ap}
-use borrow.Author.Rules.{rules}
 use Rattle.rules.specs.SnapshotsMigrationCertificates.{reply_or, status}
 use Rattle.validation.specs.Judgement.{judged_reply}
 use Rattle.validation.proofs.StoredForm.{nameless-form}
