@@ -87,12 +87,12 @@ part_left : {l : Lent} {input before room output₀ output : List ℕ} {used wri
 part_left {l} {output₀ = output₀} {output = output} {written = written} u =
     rest-is written output ∙ ap (λ o. drop written o) u.output ∙ drop_at (answers_to_lines l u.lines) (drop written output₀) written (sym u.are_written)
 
-pub turn : {l : Lent} {input before room output₀ output : List ℕ} {used written : ℕ} (Room-after part-after : List ℕ) (end size : ℕ)
+pub turn : {l : Lent} {input before room output₀ output : List ℕ} {used written : ℕ} (room-after part-after : List ℕ) (end size : ℕ)
     → Underway l input before room output₀ output used written → FirstLine (drop used input) end
-    → PromisesLine (operation_of_line (take end (drop used input))) room Room-after (part_from written output) part-after (answered.Written size)
-    → Underway l input before Room-after output₀ (put written (length output - written) output part-after) (used + (end + 1)) (written + size)
+    → PromisesLine (operation_of_line (take end (drop used input))) room room-after (part_from written output) part-after (answered.Written size)
+    → Underway l input before room-after output₀ (put written (length output - written) output part-after) (used + (end + 1)) (written + size)
 unfolding answer_to_line
-turn {l} {input} {before} {room} {output₀} {output} {used} {written} Room-after part-after end size u f promise =
+turn {l} {input} {before} {room} {output₀} {output} {used} {written} room-after part-after end size u f promise =
     let line = take end (drop used input) in
     let lent = lent_after l u.lines in
     let answers = answers_to_lines l u.lines in
@@ -112,7 +112,7 @@ turn {l} {input} {before} {room} {output₀} {output} {used} {written} Room-afte
           ap (λ whole. put written (length whole - written) whole part-after) u.output ∙ two-halves written output₀ answers part-after (sym u.are_written)
           ∙ ap (λ part. answers ++ part) (a.output ∙ ap (λ part. text ++ (line_feed ∷ drop size part)) (part_left u) ∙ ap (λ later. text ++ (line_feed ∷ later)) (drop-drop size written output₀))
           ∙ sym (ap (λ front. front ++ rest) (answers-end l u.lines line) ∙ append_assoc answers (text ++ (line_feed ∷ [])) rest ∙ ap (λ more. answers ++ more) (append_assoc text (line_feed ∷ []) rest));
-      lent = subst (λ k. IsLent Room-after k) (sym (lent-end l u.lines line)) a.lent;
+      lent = subst (λ k. IsLent room-after k) (sym (lent-end l u.lines line)) a.lent;
       untouched = λ e. a.untouched (unsound-after l u.lines e) ∙ u.untouched e;
       had_room = room-end l (length output₀) u.lines line u.had_room (omega (arith, (promise lent u.lent).0, ap length (part_left u), length-drop written output₀, u.are_written));
     }
@@ -144,14 +144,14 @@ pub at-the-end : {l : Lent} {input before after output₀ output : List ℕ} {us
     → Batches l input before after output₀ output (record { used = used; written = written })
 at-the-end {input = input} u h = stop u (inl (subst IsLine (sym (drop_of_length-le input h)) tt))
 
-pub stopped : {l : Lent} {input before room output₀ output : List ℕ} {used written : ℕ} (Room-after part-after : List ℕ)
+pub stopped : {l : Lent} {input before room output₀ output : List ℕ} {used written : ℕ} (room-after part-after : List ℕ)
     → Underway l input before room output₀ output used written → length output ≡ length output₀
-    → PromisesNext (drop used input) room Room-after (part_from written output) part-after next.Stopped
-    → Batches l input before Room-after output₀ (put written (length output - written) output part-after) (record { used = used; written = written })
-stopped {l} {input} {before} {room} {output₀} {output} {used} {written} Room-after part-after u same promise =
-    let (room-same, Part-same, why) = promise (lent_after l u.lines) u.lent in
+    → PromisesNext (drop used input) room room-after (part_from written output) part-after next.Stopped
+    → Batches l input before room-after output₀ (put written (length output - written) output part-after) (record { used = used; written = written })
+stopped {l} {input} {before} {room} {output₀} {output} {used} {written} room-after part-after u same promise =
+    let (room-same, part-same, why) = promise (lent_after l u.lines) u.lent in
     let k = length output - written in
-    let unchanged : put written k output part-after ≡ output = ap (λ part. put written k output part) Part-same ∙ put_same written k output in
+    let unchanged : put written k output part-after ≡ output = ap (λ part. put written k output part) part-same ∙ put_same written k output in
     let left : length (part_from written output) ≡ length output₀ - written = part_length written output ∙ ap (λ n. n - written) same in
     subst (λ m. Batches l input before m output₀ (put written k output part-after) (record { used = used; written = written })) (sym room-same)
     (subst (λ o. Batches l input before room output₀ o (record { used = used; written = written })) (sym unchanged)

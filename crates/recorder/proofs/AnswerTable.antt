@@ -163,7 +163,7 @@ agreed code number low high = by_bool (λ _. kinds_in (form_of code number) ≡ 
     (λ t. within code number (ltb-true code 15 t) low high)
     (λ t. unknown code number (ltb-false code 15 t))
 
--- by what the bit is, and whether it is the 4 of a top_up
+-- by what the bit is, and whether it is the 4 of a top-up
 module _ (code number : ℕ) (low : 1 ≤ number) (high : number ≤ 24) where
   pub no-bit : bit_at code number ≡ 0 → none ≡ kinds_in (form_of code number)
   no-bit e = sym (agreed code number low high ∙ ap (λ b. cond (eqb b 0) none (some (cond (eqb number 4 && eqb code 2) [] (carried_by number)))) e)
