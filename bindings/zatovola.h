@@ -1,4 +1,4 @@
-/* Zatovola's ledger for programs in C: eighteen functions on numbers and lent bytes, in crates/zatovola/out/libzatovola.a (rt lib zatovola).
+/* Zatovola's ledger for programs in C: eighteen functions on numbers and lent bytes, in crates/zatovola/out/libzatovola.a (rt lib in crates/zatovola).
  *
  * Each is proved for every input: there is no state but the room that the caller lends, nothing is allocated, nothing is kept between calls, and every
  * answer is a value. The caller owes what C asks of any function: a pointer, not null, to as many bytes as the length beside it says (below 2^63), valid for the

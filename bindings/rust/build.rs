@@ -1,4 +1,4 @@
-//! Links the proved archive, which `rt lib zatovola` writes (or which stands in the folder ZATOVOLA_ARCHIVE).
+//! Links the proved archive, which `rt lib` in crates/zatovola writes (or which stands in the folder ZATOVOLA_ARCHIVE).
 
 use std::path::PathBuf;
 
@@ -8,7 +8,7 @@ fn main() {
     let archive = folder.join("libzatovola.a");
     println!("cargo:rerun-if-env-changed=ZATOVOLA_ARCHIVE");
     println!("cargo:rerun-if-changed={}", archive.display());
-    assert!(archive.exists(), "{} is missing: run 'rt lib zatovola' at the top of the repository", archive.display());
+    assert!(archive.exists(), "{} is missing: run 'rt lib' in crates/zatovola", archive.display());
     println!("cargo:rustc-link-search=native={}", folder.display());
     println!("cargo:rustc-link-lib=static=zatovola");
 }
