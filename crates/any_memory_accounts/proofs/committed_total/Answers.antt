@@ -1,5 +1,4 @@
 -- `any_memory_accounts::committed_total` meets its contract: memory that is no sound room is 24, and of a sound one `reads` promises the rest (Told).
-use borrow.Author.Rules.{rules}
 use borrow.Author.Tests.{not-false}
 use Rattle.any_memory_accounts.proofs.Told.{untold, told}
 use Rattle.any_memory_accounts.proofs.committed_total.Goals as goal

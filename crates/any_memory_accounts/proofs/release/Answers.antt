@@ -1,6 +1,5 @@
 -- `any_memory_accounts::release` meets its contract: memory that is no sound room is 24 and stays, and of a sound one `reservations` promises the rest
 -- (soundness, Checked).
-use borrow.Author.Rules.{rules}
 use borrow.Author.Tests.{not-false}
 use Rattle.soundness.proofs.Checked.{refused, answered}
 use Rattle.any_memory_accounts.proofs.release.Goals as goal
