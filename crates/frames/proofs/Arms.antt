@@ -127,7 +127,12 @@ is_short frame.ConservationProof _ _ = hit short_tags 12 tt
 is_short frame.Status _ _ = hit short_tags 13 tt
 is_short frame.BadFrame _ _ = hit short_tags 14 tt
 
-pub is_lent : (f : Frame) → ((fence : ℕ) → f ≢ frame.Migrate fence) → ((since : Microcents) → f ≢ frame.CertificateOfSnapshot since) → f ≢ frame.Status → f ≢ frame.BadFrame → IsOneOf lent_tags f
+pub is_lent : (f : Frame)
+    → ((fence : ℕ) → f ≢ frame.Migrate fence)
+    → ((since : Microcents) → f ≢ frame.CertificateOfSnapshot since)
+    → f ≢ frame.Status
+    → f ≢ frame.BadFrame
+    → IsOneOf lent_tags f
 is_lent (frame.Ensure end amount) _ _ _ _ = hit lent_tags 0 tt
 is_lent (frame.TopUp end amount) _ _ _ _ = hit lent_tags 1 tt
 is_lent (frame.Limit end amount) _ _ _ _ = hit lent_tags 2 tt
@@ -144,7 +149,19 @@ is_lent frame.ConservationProof _ _ _ _ = hit lent_tags 12 tt
 is_lent frame.Status _ _ other _ = absurd (other refl)
 is_lent frame.BadFrame _ _ _ other = absurd (other refl)
 
-pub is_unlent : (f : Frame) → ((end : ℕ) (amount : Microcents) → f ≢ frame.Ensure end amount) → ((end : ℕ) (amount : Microcents) → f ≢ frame.TopUp end amount) → ((end : ℕ) (amount : Microcents) → f ≢ frame.Limit end amount) → ((end : ℕ) (amount : Microcents) → f ≢ frame.Reserve end amount) → ((id : Identifier) (amount : Microcents) → f ≢ frame.Commit id amount) → ((id : Identifier) → f ≢ frame.Release id) → f ≢ frame.Snapshot → f ≢ frame.Restore → f ≢ frame.RecoveryRestore → f ≢ frame.Certificate → f ≢ frame.ConservationProof → IsOneOf unlent_tags f
+pub is_unlent : (f : Frame)
+    → ((end : ℕ) (amount : Microcents) → f ≢ frame.Ensure end amount)
+    → ((end : ℕ) (amount : Microcents) → f ≢ frame.TopUp end amount)
+    → ((end : ℕ) (amount : Microcents) → f ≢ frame.Limit end amount)
+    → ((end : ℕ) (amount : Microcents) → f ≢ frame.Reserve end amount)
+    → ((id : Identifier) (amount : Microcents) → f ≢ frame.Commit id amount)
+    → ((id : Identifier) → f ≢ frame.Release id)
+    → f ≢ frame.Snapshot
+    → f ≢ frame.Restore
+    → f ≢ frame.RecoveryRestore
+    → f ≢ frame.Certificate
+    → f ≢ frame.ConservationProof
+    → IsOneOf unlent_tags f
 is_unlent (frame.Ensure end amount) other _ _ _ _ _ _ _ _ _ _ = absurd (other end amount refl)
 is_unlent (frame.TopUp end amount) _ other _ _ _ _ _ _ _ _ _ = absurd (other end amount refl)
 is_unlent (frame.Limit end amount) _ _ other _ _ _ _ _ _ _ _ = absurd (other end amount refl)

@@ -2,7 +2,6 @@
 -- left alone, since an unsound ledger stays one (`still-unsound` of Arms.antt).
 use mathlib.Core.Path.{subst}
 use mathlib.Core.Bool.{Bool, true, false}
-use borrow.Author.Rules.{rules}
 use Rattle.rules.specs.AnswerNumbers.{sound, unsound}
 use Rattle.frame_reader.specs.Operations.{operation_in}
 use Rattle.frames.specs.Answering.{Known}

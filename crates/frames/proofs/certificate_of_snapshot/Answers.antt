@@ -1,6 +1,5 @@
 -- `frames::certificate_of_snapshot`: the call's answer is the rules', by its contract, and `matched` takes over what the writing promises.
 use mathlib.Core.Path.{sym}
-use borrow.Author.Rules.{rules}
 use Rattle.answer_bytes.proofs.Arms.{matched}
 use Rattle.frames.proofs.certificate_of_snapshot.Goals as goal
 

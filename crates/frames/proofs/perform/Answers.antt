@@ -4,7 +4,6 @@ use mathlib.Core.Path.{◌≡◌, sym, subst}
 use mathlib.Core.List.{List}
 use Prim.Native.Nat.{ℕ, ◌-◌, ◌≤◌}
 use native.Mathlib.Omega.{arith}
-use borrow.Author.Rules.{rules}
 use lib.ListN.{length, take, drop}
 use Rattle.rules.specs.RoomAndSoundLedger.{Ledger}
 use Rattle.rules.specs.AnswerNumbers.{sound}
@@ -69,7 +68,13 @@ returns-in-RecoveryRestore c L room =
 
 pub returns-in_default : goal.returns-in_default
 returns-in_default c L is_room =
-    left_alone (takes_none (bytes c.before.before.before.before.before.before) (sound L) (start c.before.before.before.before.before.before).args.frame (let other = c.in_default in is_unlent _ other.not-Ensure other.not-TopUp other.not-Limit other.not-Reserve other.not-Commit other.not-Release other.not-Snapshot other.not-Restore other.not-RecoveryRestore other.not-Certificate other.not-ConservationProof)) is_room c.without_ledger.ensures
+    let entry = start c.before.before.before.before.before.before in
+    let other = c.in_default in
+    left_alone
+    (takes_none entry.args.bytes.now (sound L) entry.args.frame
+    (is_unlent entry.args.frame other.not-Ensure other.not-TopUp other.not-Limit other.not-Reserve other.not-Commit other.not-Release other.not-Snapshot
+    other.not-Restore other.not-RecoveryRestore other.not-Certificate other.not-ConservationProof))
+    is_room c.without_ledger.ensures
 
 pub slice_bounds-ensure-count : goal.slice_bounds-ensure-count
 slice_bounds-ensure-count c = (parts c.before.before.before c.in-Ensure.is).0

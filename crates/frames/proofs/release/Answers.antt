@@ -1,7 +1,6 @@
 -- `frames::release`: what the call performs on the ledger, and the writing of its answer, put together by `performed` of Performing.antt; `answer` unfolded
 -- gives the equation that it asks for.
 use mathlib.Core.Path.{refl}
-use borrow.Author.Rules.{rules}
 use Rattle.rules.specs.Frames.{answer}
 use Rattle.frames.proofs.Performing.{performed}
 use Rattle.frames.proofs.release.Goals as goal

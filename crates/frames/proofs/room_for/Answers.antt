@@ -1,7 +1,6 @@
 -- `frames::room_for`: a frame matched by name computes; a migration's operation is there, since its snapshot is; the others are known by their tags
 -- (`short-answer` of Arms.antt).
 use mathlib.Core.Path.{sym, ap, subst, ◌∙◌}
-use borrow.Author.Rules.{rules}
 use Rattle.rules.specs.Frames.{migrate_to}
 use Rattle.frame_reader.specs.Operations.{operation_in, PartsWithin}
 use Rattle.frames.specs.Answering.{room_for}

@@ -1,6 +1,5 @@
 -- `frames::status`: the judgement is the rules' answer, by the call's contract, and `matched` takes over what the writing promises.
 use mathlib.Core.Path.{sym}
-use borrow.Author.Rules.{rules}
 use Rattle.answer_bytes.proofs.Arms.{matched}
 use Rattle.frames.proofs.status.Goals as goal
 
