@@ -3,7 +3,6 @@
 use mathlib.Core.Path.{◌≡◌, sym, subst}
 use mathlib.Core.List.{List}
 use Prim.Native.Nat.{ℕ}
-use borrow.Author.Rules.{rules}
 use lib.Seq.{length-take-le}
 use Rattle.rules.specs.Frames.{bytes_of_line}
 use Rattle.rules.proofs.FrameBytes.{line-as-frame, no-bytes-no-frame}

@@ -1,6 +1,5 @@
 -- `lines::batch`: what `is_sound` decides is what is known of the memory (`found` of AnswerLines.antt); the rest is `answer_lines`' contract.
 use native.Mathlib.Omega.{arith}
-use borrow.Author.Rules.{rules}
 use Rattle.lines.proofs.AnswerLines.{found}
 use Rattle.lines.proofs.batch.Goals as goal
 

@@ -1,6 +1,5 @@
 -- `lines::finish`: `spell` leaves the line in front of what was behind it, and storing the line feed replaces the next character (`fed` of AnswerLines.antt).
 use mathlib.Core.Path.{refl}
-use borrow.Author.Rules.{rules}
 use Rattle.lines.proofs.AnswerLines.{fed}
 use Rattle.lines.proofs.finish.Goals as goal
 

@@ -1,11 +1,7 @@
 -- `lines::line_end`, by a loop whose invariant is that no character passed is a line feed; LineFound.antt adds a character and takes the end of the input.
-use mathlib.Core.Path.{refl}
 use Prim.Native.Nat.{◌-◌, ◌≤◌}
-use native.Mathlib.Omega.{arith}
-use borrow.Author.Rules.{rules}
 use lib.ListN.{length, take, drop}
 use Rattle.lines.specs.Batching.{IsLine}
-use Rattle.lines.proofs.LineFound.{no-character, one_more, to_the_end}
 use Rattle.lines.proofs.line_end.Given as goal
 
 abbrev pub invariant-loop-at : goal.invariant-loop-at

@@ -1,6 +1,5 @@
 -- `lines::next_at`: the answer is the case matched, and `next_of` computes on it.
 use mathlib.Core.Path.{sym, ap}
-use borrow.Author.Rules.{rules}
 use Rattle.lines.specs.Batching.{next_of}
 use Rattle.lines.proofs.next_at.Goals as goal
 

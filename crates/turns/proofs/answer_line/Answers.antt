@@ -2,7 +2,6 @@
 -- the memory is lent as (`of-any`).
 use mathlib.Core.Path.{◌≡◌, subst}
 use native.Mathlib.Omega.{arith}
-use borrow.Author.Rules.{rules}
 use lib.ListN.{length}
 use Rattle.rules.specs.Frames.{operation_of_line}
 use Rattle.lines.specs.Batching.{PromisesLine}

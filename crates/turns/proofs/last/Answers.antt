@@ -3,7 +3,6 @@ use mathlib.Core.Path.{◌≡◌, refl, ap}
 use mathlib.Core.List.{List}
 use Prim.Native.Nat.{ℕ, ◌-◌, ◌≤◌}
 use native.Mathlib.Omega.{arith}
-use borrow.Author.Rules.{rules}
 use lib.ListN.{length}
 use Rattle.rules.specs.AnswerNumbers.{unsound}
 use Rattle.rules.specs.Frames.{lent_after}
@@ -16,7 +15,7 @@ use Rattle.turns.proofs.last.Tie as tie
 use Rattle.turns.proofs.last.Goals as goal
 
 abbrev Start : Type 0
-Start = place.Start tie.the-claims tie.handed_pre tie.handed_post
+Start = place.Start tie.the-claims tie.handed_pre tie.handed_post tie.handed_clauses
 
 module _ (s : Start) where
   abbrev input : List ℕ
@@ -31,22 +30,23 @@ module _ (s : Start) where
 pub returns-then-end-from : goal.returns-then-end-from
 returns-then-end-from c =
     let h = c.args.held in
-    let none : h.end - h.from ≡ 0 = omega (arith, c.if-end-from.true) in (
-      omega arith,
-      (λ l read written enough is_line a. ends-at-feed (length (input c.before.before.before.before.before)) enough (short c.before.before.before.before.before) is_line a (ap (λ n. row n h.from (input c.before.before.before.before.before)) none), λ _. refl),
-    )
+    let none : h.end - h.from ≡ 0 = omega (arith, c.if-end-from.true) in
+    record {
+      within = omega arith;
+      answers = λ l read written enough is_line a. ends-at-feed (length (input c.before.before.before.before.before)) enough (short c.before.before.before.before.before) is_line a (ap (λ n. row n h.from (input c.before.before.before.before.before)) none);
+      unsound = λ _. refl;
+    }
 
 pub returns : goal.returns
 returns c =
     let call = c.answer_line in
-    (
-      omega (arith, call.ensures.within, call.auto),
-      (
-        λ l read written enough is_line a. ends-in-line (length (input c.before.before.before.before.before.before.before.before.before.before.before.before.before)) enough (short c.before.before.before.before.before.before.before.before.before.before.before.before.before) is_line a (omega (arith, long c.before.before.before.before.before.before.before.before.before.before.before.before.before, c.if-end-from.false, c.requires.0.0))
-            (call.ensures.answers (lent_after l a.handed_on) a.lent),
-        λ is. (call.ensures.answers unsound is).untouched refl,
-      ),
-    )
+    record {
+      within = omega (arith, call.ensures.within, call.auto);
+      answers =
+          λ l read written enough is_line a. ends-in-line (length (input c.before.before.before.before.before.before.before.before.before.before.before.before.before)) enough (short c.before.before.before.before.before.before.before.before.before.before.before.before.before) is_line a (omega (arith, long c.before.before.before.before.before.before.before.before.before.before.before.before.before, c.if-end-from.false, c.requires.0.0))
+          (call.ensures.answers (lent_after l a.handed_on) a.lent);
+      unsound = λ is. (call.ensures.answers unsound is).untouched refl;
+    }
 
 pub answer_line-requires : goal.answer_line-requires
 answer_line-requires c = c.requires.1

@@ -2,7 +2,6 @@
 -- (`too-long-to-hold`).
 use Prim.Native.Nat.{◌-◌}
 use native.Mathlib.Omega.{arith}
-use borrow.Author.Rules.{rules}
 use Rattle.records.specs.Rows.{row}
 use Rattle.turns.proofs.Reading.{stays-held, too-long-to-hold}
 use Rattle.turns.proofs.make_room.Goals as goal

@@ -5,7 +5,6 @@ use mathlib.Core.Bool.{false}
 use mathlib.Core.List.{◌++◌}
 use Prim.Native.Nat.{ℕ, ◌+◌, ◌-◌}
 use native.Mathlib.Omega.{arith}
-use borrow.Author.Rules.{rules}
 use lib.ListN.{length, take, drop}
 use lib.Seq.{length-take-le}
 use Rattle.records.specs.Rows.{row}
@@ -19,10 +18,10 @@ use Rattle.turns.proofs.pass_over.Tie as tie
 use Rattle.turns.proofs.pass_over.Goals as goal
 
 abbrev Start : Type 0
-Start = place.Start tie.the-claims tie.handed_pre tie.handed_post
+Start = place.Start tie.the-claims tie.handed_pre tie.handed_post tie.handed_clauses
 
 abbrev In-At : Type 0
-In-At = place.Past-After-known_told tie.the-claims tie.handed_pre tie.handed_post
+In-At = place.Past-After-known_told tie.the-claims tie.handed_pre tie.handed_post tie.handed_clauses
 
 part-long : (s : Start) → length (take s.args.end s.args.input.now) ≡ s.args.end
 part-long s = length-take-le s.args.end s.args.input.now s.requires.1
@@ -58,5 +57,8 @@ returns c =
     let a = s.args in
     let input = a.input.now in
     let held = row (a.end - (feed c.before + 1)) (feed c.before + 1) input in
-    let part = take (feed c.before - a.from) (drop a.from (take a.end input)) in record { within = (omega (arith, (found_at c.before).1, part-long s), s.requires.1); reads = λ read handed_on reads. subst (λ more. Reads (length input) (read ++ more) handed_on false held) (sym (behind-feed input a.from a.end (feed c.before) s.requires.0 s.requires.1 (found_at c.before)))
-          (passed part held (found_at c.before).3 reads) }
+    let part = take (feed c.before - a.from) (drop a.from (take a.end input)) in record {
+      within = (omega (arith, (found_at c.before).1, part-long s), s.requires.1);
+      reads = λ read handed_on reads. subst (λ more. Reads (length input) (read ++ more) handed_on false held) (sym (behind-feed input a.from a.end (feed c.before) s.requires.0 s.requires.1 (found_at c.before)))
+          (passed part held (found_at c.before).3 reads);
+    }

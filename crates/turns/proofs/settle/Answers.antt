@@ -3,7 +3,7 @@
 use mathlib.Core.Path.{◌≡◌, refl, sym, subst, ap, ◌∙◌}
 use mathlib.Core.Bool.{true}
 use mathlib.Core.List.{List, [], ◌∷◌}
-use Prim.Native.Nat.{ℕ, ◌-◌, ◌≤◌, ◌<◌}
+use Prim.Native.Nat.{ℕ, ◌≤◌, ◌<◌}
 use native.Mathlib.Omega.{arith}
 use lib.ListN.{length, take}
 use Rattle.rules.specs.AnswerNumbers.{unsound}
@@ -27,24 +27,24 @@ returns-then-held c =
     let h = made.result in
     let input = made.new.input in
     let after = call.new.room in
-    let text = take call.result call.new.output in (
-      done-within h call.result input call.new.output made.ensures.room (omega (arith, call.ensures.within, call.auto)),
-      (
-        λ is_line l read written a.
-            let lent = lent_after l a.handed_on in
-            let answer = call.ensures.answers lent a.lent in
-            let (reads, held-line) = made.ensures.reads read a.handed_on is_line a.reads in
-            let lines : passed_over h.passing input ≡ input ∷ [] = ap (λ p. passed_over p input) taken in
-            record {
-              answers =
-                  further a (passed_over h.passing input) h.passing (held_in input h) text after reads
-                  (line-written input answer ∙ ap (answers_to_lines lent) (sym lines))
-                  (subst (λ given. IsLent after (lent_after lent given)) (sym lines) (line-lent input answer));
-              none_left = λ _. held-line;
-            },
-        λ is. (call.ensures.answers unsound is).untouched refl,
-      ),
-    )
+    let text = take call.result call.new.output in
+    record {
+      within = done-within h call.result input call.new.output made.ensures.room (omega (arith, call.ensures.within, call.auto));
+      answers =
+          λ is_line l read written a.
+          let lent = lent_after l a.handed_on in
+          let answer = call.ensures.answers lent a.lent in
+          let (reads, held-line) = made.ensures.reads read a.handed_on is_line a.reads in
+          let lines : passed_over h.passing input ≡ input ∷ [] = ap (λ p. passed_over p input) taken in
+          record {
+            answers =
+                further a (passed_over h.passing input) h.passing (held_in input h) text after reads
+                (line-written input answer ∙ ap (answers_to_lines lent) (sym lines))
+                (subst (λ given. IsLent after (lent_after lent given)) (sym lines) (line-lent input answer));
+            none_left = λ _. held-line;
+          };
+      unsound = λ is. (call.ensures.answers unsound is).untouched refl;
+    }
 
 pub returns : goal.returns
 unfolding answers_to_lines lent_after
@@ -52,23 +52,23 @@ returns c =
     let made = c.make_room-held in
     let h = made.result in
     let input = made.new.input in
-    let room = c.args.room.now in (
-      done-within h 0 input c.args.output.now made.ensures.room (omega arith),
-      (
-        λ is_line l read written a.
-            let lent = lent_after l a.handed_on in
-            let (reads, held-line) = made.ensures.reads read a.handed_on is_line a.reads in
-            let lines : passed_over h.passing input ≡ [] = ap (λ p. passed_over p input) c.if-held.false in
-            record {
-              answers =
-                  further a (passed_over h.passing input) h.passing (held_in input h) [] room reads
-                  (ap (answers_to_lines lent) (sym lines))
-                  (subst (λ given. IsLent room (lent_after lent given)) (sym lines) a.lent);
-              none_left = λ _. held-line;
-            },
-        λ is. refl,
-      ),
-    )
+    let room = c.args.room.now in
+    record {
+      within = done-within h 0 input c.args.output.now made.ensures.room (omega arith);
+      answers =
+          λ is_line l read written a.
+          let lent = lent_after l a.handed_on in
+          let (reads, held-line) = made.ensures.reads read a.handed_on is_line a.reads in
+          let lines : passed_over h.passing input ≡ [] = ap (λ p. passed_over p input) c.if-held.false in
+          record {
+            answers =
+                further a (passed_over h.passing input) h.passing (held_in input h) [] room reads
+                (ap (answers_to_lines lent) (sym lines))
+                (subst (λ given. IsLent room (lent_after lent given)) (sym lines) a.lent);
+            none_left = λ _. held-line;
+          };
+      unsound = λ is. refl;
+    }
 
 pub make_room-held-requires : goal.make_room-held-requires
 make_room-held-requires c = (c.requires.0, c.requires.1, c.requires.2)

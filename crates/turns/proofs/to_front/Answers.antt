@@ -1,11 +1,10 @@
 -- `turns::to_front`, by a loop whose invariant is `Moved` of Parts.antt: so many bytes are at the front, and those behind stand as they were.
 use mathlib.Core.Path.{◌≡◌, refl, ap, ◌∙◌}
-use Prim.Native.Nat.{◌-◌, ◌≤◌}
+use Prim.Native.Nat.{◌-◌}
 use native.Mathlib.Omega.{arith}
-use borrow.Author.Rules.{rules}
-use lib.ListN.{length, length-set}
+use lib.ListN.{length-set}
 use Rattle.records.specs.Rows.{row}
-use Rattle.turns.proofs.Parts.{Moved, none-moved, one-moved}
+use Rattle.turns.proofs.Parts.{none-moved, one-moved}
 use Rattle.turns.proofs.to_front.Goals as goal
 
 pub loop-at-init : goal.loop-at-init

@@ -1,11 +1,8 @@
 -- `turns::to_front`, by a loop whose invariant is `Moved` of Parts.antt: so many bytes are at the front, and those behind stand as they were.
-use mathlib.Core.Path.{◌≡◌, refl, ap, ◌∙◌}
+use mathlib.Core.Path.{◌≡◌}
 use Prim.Native.Nat.{◌-◌, ◌≤◌}
-use native.Mathlib.Omega.{arith}
-use borrow.Author.Rules.{rules}
-use lib.ListN.{length, length-set}
-use Rattle.records.specs.Rows.{row}
-use Rattle.turns.proofs.Parts.{Moved, none-moved, one-moved}
+use lib.ListN.{length}
+use Rattle.turns.proofs.Parts.{Moved}
 use Rattle.turns.proofs.to_front.Given as goal
 
 abbrev pub invariant-loop-at : goal.invariant-loop-at
