@@ -78,13 +78,7 @@ fn close(rt: &HostRuntime, room: &mut [u8], input: &[u8], output: &mut [u8], hel
 
 // One read, and the answers to every whole line that it brought. A read that fails ends no input: what is held may be the beginning of a line, and is not
 // answered.
-fn turn(
-    rt: &HostRuntime,
-    room: &mut [u8],
-    input: &mut [u8],
-    output: &mut [u8],
-    held: Held,
-) -> Desk
+fn turn(rt: &HostRuntime, room: &mut [u8], input: &mut [u8], output: &mut [u8], held: Held) -> Desk
     requires { ReadyToRead (length input.old) held × (longest_answer_line ≤ length output.old) }
     ensures { ReadyToRead (length input.old) result.held }
 {

@@ -10,13 +10,13 @@ pub returns-then-output-room_for : goal.returns-then-output-room_for
 returns-then-output-room_for c l is_lent =
     let read = c.read-operation.ensures in
     let needed = c.room_for.ensures c.args.frame.now read.parts ∙ ap room_for read.operation in
-    record { answered = λ room. absurd (omega (arith, room, needed, c.if-output-room_for.true)); too_short = λ _. (refl, refl, refl) }
+    record { answered = λ room. absurd (omega (arith, room, needed)); too_short = λ _. (refl, refl, refl) }
 
 pub answer-requires : goal.answer-requires
 answer-requires c =
     let read = c.read-operation.ensures in
     let needed = c.room_for.ensures c.args.frame.now read.parts in
-    (found c.is_sound-known.result c.is_sound-known.ensures, (read.parts, omega (arith, c.if-output-room_for.false, needed)))
+    (found c.is_sound-known.result c.is_sound-known.ensures, (read.parts, omega (arith, needed)))
 
 pub returns : goal.returns
 returns c l is_lent =
@@ -25,5 +25,5 @@ returns c l is_lent =
     let a = c.args in
     record {
       answered = λ _. subst (λ o. AnswersOperation o l a.room.now c.answer.new.room a.output.now c.answer.new.output c.answer.result) read.operation (c.answer.ensures l is_lent);
-      too_short = λ short. absurd (omega (arith, short, needed, c.if-output-room_for.false));
+      too_short = λ short. absurd (omega (arith, short, needed));
     }

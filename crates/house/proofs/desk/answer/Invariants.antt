@@ -1,14 +1,9 @@
 -- `house::desk::answer`, by a loop whose invariant is that what is held stands within the input, with room to read into once the turn is done; each step that
--- does not end the turn gets further (`less`).
-use mathlib.Core.Path.{◌≡◌, refl, sym, ◌∙◌}
+-- does not end the turn gets further, so that fewer steps are left (`steps_left`).
+use mathlib.Core.Path.{◌≡◌}
 use mathlib.Core.Bool.{Bool, true, false}
-use Prim.Native.Nat.{ℕ, ◌+◌, ◌-◌, ◌≤◌, ◌<◌}
-use native.Mathlib.Omega.{arith}
-use borrow.Author.Rules.{rules}
-use borrow.Author.Tests.{not-true, not-false}
+use Prim.Native.Nat.{ℕ, ◌+◌, ◌-◌, ◌<◌}
 use lib.ListN.{length}
-use lib.Seq.{length-take-le}
-use Rattle.rules.proofs.Tests.{true-false}
 use Rattle.turns.specs.Turns.{Within}
 use Rattle.house.proofs.desk.answer.Given as goal
 

@@ -1,6 +1,5 @@
 -- `house::desk::open`, by a loop whose invariant is that there is room to read into, as each turn promises; the turns count down.
 use mathlib.Core.Path.{◌≡◌}
-use borrow.Author.Rules.{rules}
 use lib.ListN.{length}
 use Rattle.house.specs.Desk.{ReadyToRead}
 use Rattle.house.proofs.desk.open.Given as goal
