@@ -1,6 +1,5 @@
 -- `heads::next_after` meets its contract: the test against M is the rule's own, turned to its Boolean form; below M the sum fits.
 use native.Mathlib.Omega.{arith}
-use borrow.Author.Rules.{rules}
 use borrow.Author.Tests.{lt-ltb, le-ltb}
 use Rattle.rules.specs.RoomAndSoundLedger.{M}
 use Rattle.heads.proofs.next_after.Goals as goal

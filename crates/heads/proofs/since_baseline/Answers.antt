@@ -1,6 +1,5 @@
 -- `heads::since_baseline` meets its contract: the test of the two is the definition's own, turned to its Boolean form.
 use native.Mathlib.Omega.{arith}
-use borrow.Author.Rules.{rules}
 use borrow.Author.Tests.{lt-ltb, le-ltb}
 use Rattle.heads.proofs.since_baseline.Goals as goal
 
