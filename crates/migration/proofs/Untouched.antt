@@ -1,6 +1,6 @@
 -- A refusal carries no snapshot (Refusals), and so leaves the output room as it was; a verdict that is not `Done` is one.
 use mathlib.Core.Path.{◌≡◌, refl, ap, ◌∙◌}
-use mathlib.Core.List.{List, ◌++◌, [], ◌∷◌}
+use mathlib.Core.List.{List, ◌++◌}
 use mathlib.Core.Option.{Option, none, some}
 use Prim.Native.Nat.{ℕ}
 use lib.ListN.{length, drop}
@@ -10,7 +10,7 @@ use Rattle.rules.specs.SnapshotsMigrationCertificates.{output_after, reply_or}
 use Rattle.rules.proofs.Refusals.{refusal-hands-out-nothing}
 use Rattle.validation.specs.declared.Verdict.{Verdict}
 use Rattle.validation.specs.Judgement.{refusal_of}
-use Rattle.validation.proofs.Deciding.{NotDone, refuses, refusal-given}
+use Rattle.validation.proofs.Deciding.{NotDone, refusal-given}
 use mathlib.Core.Logic.{◌≢◌}
 
 -- ── a verdict that is not `Done` refuses ───────────────────────────────────────────────────────

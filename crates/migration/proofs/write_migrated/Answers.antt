@@ -1,8 +1,7 @@
 -- `migration::write_migrated` meets its contract: the bytes are copied over the output, and the version is then put over the first eight.
-use mathlib.Core.Path.{◌≡◌, ap, ◌∙◌}
+use mathlib.Core.Path.{ap, ◌∙◌}
 use mathlib.Core.List.{◌++◌}
 use native.Mathlib.Omega.{arith}
-use borrow.Author.Rules.{rules}
 use lib.ListN.{length, drop}
 use lib.Seq.{drop-append-le}
 use Rattle.rules.specs.SnapshotsMigrationCertificates.{bytes_of}

@@ -1,6 +1,5 @@
 -- `snapshot_writer::append_account` meets its contract: without an account no row is added, and with one it is `append_row`'s.
 use mathlib.Core.List.{append-nil}
-use borrow.Author.Rules.{rules}
 use borrow.Author.Tests.{eq-eqb, ne_eqb}
 use Rattle.snapshot_writer.proofs.append_account.Goals as goal
 

@@ -8,7 +8,6 @@ use Rattle.big_endian.specs.Layout.{shortest_row}
 use Rattle.records.proofs.Rows.{row-length}
 use Rattle.snapshot_writer.specs.Rows.{row_in_place}
 use Rattle.snapshot_writer.proofs.Appending.{row-behind}
-use borrow.Author.Rules.{rules}
 use Rattle.snapshot_writer.proofs.append_row.Goals as goal
 
 pub returns : goal.returns

@@ -3,7 +3,6 @@
 use mathlib.Core.Path.{◌≡◌, ap}
 use Prim.Native.Nat.{◌≤◌}
 use native.Mathlib.Omega.{arith}
-use borrow.Author.Rules.{rules}
 use Rattle.rules.specs.SnapshotsMigrationCertificates.{most_rows}
 use Rattle.records.specs.Records.{sizes_of}
 use Rattle.snapshot_writer.proofs.PlaceRows.{used-most, rows-most}

@@ -1,5 +1,4 @@
 -- `snapshot_writer::row_size` meets its contract: the test of the account is the rule's.
-use borrow.Author.Rules.{rules}
 use borrow.Author.Tests.{eq-eqb, ne_eqb}
 use Rattle.snapshot_writer.proofs.row_size.Goals as goal
 

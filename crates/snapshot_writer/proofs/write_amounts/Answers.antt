@@ -9,7 +9,6 @@ use Rattle.big_endian.specs.Layout.{row_amounts}
 use Rattle.records.specs.Rows.{put, encoded}
 use Rattle.records.proofs.Rows.{put_all}
 use Rattle.records.proofs.Fields.{written_is}
-use borrow.Author.Rules.{rules}
 use Rattle.snapshot_writer.proofs.write_amounts.Goals as goal
 
 pub returns : goal.returns

@@ -8,7 +8,6 @@ use Rattle.rules.proofs.Numbers.{bytes-length}
 use Rattle.big_endian.specs.Layout.{active_start, count_start}
 use Rattle.records.specs.Rows.{put}
 use Rattle.records.proofs.Fields.{written_is}
-use borrow.Author.Rules.{rules}
 use Rattle.snapshot_writer.proofs.write_header.Goals as goal
 
 pub returns : goal.returns

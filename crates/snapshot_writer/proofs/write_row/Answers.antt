@@ -10,7 +10,6 @@ use Rattle.names.specs.Names.{spelled}
 use Rattle.records.specs.declared.Place.{Place}
 use Rattle.snapshot_writer.specs.Rows.{amounts_bytes, row_in_place}
 use Rattle.records.proofs.Rows.{two-halves}
-use borrow.Author.Rules.{rules}
 use Rattle.snapshot_writer.proofs.write_row.Lts as place
 use Rattle.snapshot_writer.proofs.write_row.Tie as tie
 use Rattle.snapshot_writer.proofs.write_row.Goals as goal

@@ -2,10 +2,8 @@
 -- those passed (PlaceRows).
 use mathlib.Core.Path.{◌≡◌, refl, sym, ◌∙◌, ap, subst}
 use mathlib.Core.List.{List, ◌++◌}
-use Prim.Native.Nat.{◌+◌, ◌-◌, ◌≤◌, ◌<◌}
+use Prim.Native.Nat.{◌+◌, ◌<◌}
 use native.Mathlib.Omega.{arith}
-use borrow.Author.Rules.{rules}
-use lib.ListN.{length}
 use Rattle.rules.specs.SnapshotsMigrationCertificates.{Row}
 use Rattle.records.specs.Records.{sizes_of}
 use Rattle.snapshot_writer.specs.Rows.{WritesRows}
