@@ -1,5 +1,5 @@
 // A line's words, and the numbers among them.
-ghost use Rattle.std.specs.Prelude.{◌≤◌, length};
+ghost use Rattle.std.specs.Prelude.{◌≡◌, ◌≢◌, ℕ, ◌≤◌, ◌<◌, length, get_or};
 
 // The place of a word in a list where it is not in it.
 const NOWHERE: u64 = 255;
@@ -38,7 +38,9 @@ pub struct Pair {
 // Where a byte first stands in a part of a list, or the part's end where it does not.
 pub fn find(list: &[u8], from: usize, end: usize, byte: u8) -> usize
     requires { (from ≤ end) × (end ≤ length list.now) }
-    ensures { (from ≤ result) × (result ≤ end) }
+    ensures within { (from ≤ result) × (result ≤ end) }
+    ensures before { (k : ℕ) → from ≤ k → k < result → get_or list.now k 0 ≢ byte }
+    ensures there { result < end → get_or list.now result 0 ≡ byte }
 {
     let mut at = from;
     while at < end {

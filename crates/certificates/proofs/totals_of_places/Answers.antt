@@ -83,14 +83,12 @@ overflow_add-i c = record { fits = omega (arith, few c.before.before.before.befo
 
 pub loop-i-preserved : goal.loop-i-preserved
 loop-i-preserved c =
-    let p = c in
-    let t = p in
-    let l = t.loop-i in (
-      omega (arith, t.loop-i-test.true),
-      places-next initials (room t.before.before.before.before.before.before) (start t.before.before.before.before.before.before).requires.ledger (is_room t.before.before.before.before.before.before) (i t.before.before.before.before.before.before) l.initial' l.invariant.1 (passing t.before.before.before.before.before.before) c.amount.result c.plus-initial.result
-          (c.amount.ensures ∙ ap (λ p. pos p.initial) p.load_place-place.ensures) (c.plus-initial.ensures.value, c.plus-initial.ensures.moved),
-      places-next commits (room t.before.before.before.before.before.before) (start t.before.before.before.before.before.before).requires.ledger (is_room t.before.before.before.before.before.before) (i t.before.before.before.before.before.before) l.committed l.invariant.2 (passing t.before.before.before.before.before.before) c.amount-in-loop-i.result c.plus-committed.result
-          (c.amount-in-loop-i.ensures ∙ ap (λ p. pos p.committed) p.load_place-place.ensures) (c.plus-committed.ensures.value, c.plus-committed.ensures.moved),
+    let l = c.loop-i in (
+      omega (arith, c.loop-i-test.true),
+      places-next initials (room c.before.before.before.before.before.before) (start c.before.before.before.before.before.before).requires.ledger (is_room c.before.before.before.before.before.before) (i c.before.before.before.before.before.before) l.initial' l.invariant.1 (passing c.before.before.before.before.before.before) c.amount.result c.plus-initial.result
+          (c.amount.ensures ∙ ap (λ p. pos p.initial) c.load_place-place.ensures) (c.plus-initial.ensures.value, c.plus-initial.ensures.moved),
+      places-next commits (room c.before.before.before.before.before.before) (start c.before.before.before.before.before.before).requires.ledger (is_room c.before.before.before.before.before.before) (i c.before.before.before.before.before.before) l.committed l.invariant.2 (passing c.before.before.before.before.before.before) c.amount-in-loop-i.result c.plus-committed.result
+          (c.amount-in-loop-i.ensures ∙ ap (λ p. pos p.committed) c.load_place-place.ensures) (c.plus-committed.ensures.value, c.plus-committed.ensures.moved),
     )
 
 -- ── after the last place ───────────────────────────────────────────────────────────────────────

@@ -66,13 +66,11 @@ loop-at-smaller c = omega (arith, end_is c.before.before.before.before.before, f
 
 pub loop-at-preserved : goal.loop-at-preserved
 loop-at-preserved c s e =
-    let r = c in
-    let t = r in
-    let l = t.loop-at in
-    let row = r.read_row-row.result in
-    subst (λ at. Passed (bytes t.before.before.before.before.before.before) s.rows at (BothAdded c.plus-initial.result c.plus-committed.result)) (sym (end_is r.before.before.before.before.before))
-    (advance (l.invariant s e) t.loop-at-test.true (ends r.before.before.before.before.before)
-    (λ a. let read = r.read_row-row.ensures a.row a.later a.from in (
+    let l = c.loop-at in
+    let row = c.read_row-row.result in
+    subst (λ at. Passed (bytes c.before.before.before.before.before.before) s.rows at (BothAdded c.plus-initial.result c.plus-committed.result)) (sym (end_is c.before.before.before.before.before))
+    (advance (l.invariant s e) c.loop-at-test.true (ends c.before.before.before.before.before)
+    (λ a. let read = c.read_row-row.ensures a.row a.later a.from in (
       rows_next (λ r. r.initial) a.earlier a.row l.initial' a.so_far.0 row.initial c.plus-initial.result read.initial (c.plus-initial.ensures.value, c.plus-initial.ensures.moved),
       rows_next (λ r. r.committed) a.earlier a.row l.committed a.so_far.1 row.committed c.plus-committed.result read.committed (c.plus-committed.ensures.value, c.plus-committed.ensures.moved),
     )))

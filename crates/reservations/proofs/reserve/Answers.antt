@@ -201,12 +201,11 @@ sum_is c = fits_sum _ _ _ (told c.plus.ensures c.in-Fits.is)
 
 pub returns-in_default-exposure_of : goal.returns-in_default-exposure_of
 returns-in_default-exposure_of c L r =
-    let v = c in
-    let e = present v.before.before.before.before.before in
+    let e = present c.before.before.before.before.before in
     let d = drew (positive e) in
     let s = start d in
-    let exceeds = is-exceeded (seat d).limit (reserved v.before.before.before.before.before) (told c.exposure_of.ensures c.in_default-exposure_of.is) in
-    refuses (room s) L r (name s) (cost s) (ExposureLimitExceeded _ _) (always d _ (λ last. reserve-exposed last (seat d) (cost s) _ (is-asked e) _ (sum_is v.before.before.before.before.before).0 (sum_is v.before.before.before.before.before).1 exceeds) L r) _
+    let exceeds = is-exceeded (seat d).limit (reserved c.before.before.before.before.before) (told c.exposure_of.ensures c.in_default-exposure_of.is) in
+    refuses (room s) L r (name s) (cost s) (ExposureLimitExceeded _ _) (always d _ (λ last. reserve-exposed last (seat d) (cost s) _ (is-asked e) _ (sum_is c.before.before.before.before.before).0 (sum_is c.before.before.before.before.before).1 exceeds) L r) _
     (ap₂ (λ v w. reply_of (ExposureLimitExceeded v w)) c.amount-in_default-exposure_of.ensures c.amount-in_default-exposure_of-2.ensures)
 
 -- the limit allows it

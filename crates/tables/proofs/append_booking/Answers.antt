@@ -22,16 +22,15 @@ sizes c = loaded c.args.room.now c.load_sizes-sizes.result c.requires.0 c.load_s
 
 pub returns : goal.returns
 returns c =
-    let d = c in
-    let t = d.load_sizes-sizes.result in
-    let z = sizes d.before.before.before.before.before.before.before.before.before.before in
+    let t = c.load_sizes-sizes.result in
+    let z = sizes c.before.before.before.before.before.before.before.before.before.before in
     let booked = c.store_booking in
     let last = c.store_counts in
-    let room = d.args.room.now in
-    let booking = d.args.booking in
+    let room = c.args.room.now in
+    let booking = c.args.booking in
     let put_in : List Booking → List Booking = λ bs. set bs t.live booking in
-    let a = booking-replaced room room (λ bs. bs) (refl, refl) (base_of t.names) (ap base_of z.names) put_in booked.new.room t.live booking d.requires.0 (omega arith) (booked.ensures.stored, booked.ensures.fits) refl in
-    counted (on_bookings put_in) (appended_booking booking) room booked.new.room last.new.room t.used (t.live + 1) (stays (on_bookings put_in) room booked.new.room (λ c. refl) d.requires.0 a) a
+    let a = booking-replaced room room (λ bs. bs) (refl, refl) (base_of t.names) (ap base_of z.names) put_in booked.new.room t.live booking c.requires.0 (omega arith) (booked.ensures.stored, booked.ensures.fits) refl in
+    counted (on_bookings put_in) (appended_booking booking) room booked.new.room last.new.room t.used (t.live + 1) (stays (on_bookings put_in) room booked.new.room (λ c. refl) c.requires.0 a) a
     (last.ensures.stored, last.ensures.fits) (appended (contents_of room) t z.sizes booking)
 
 pub overflow_mul-base : goal.overflow_mul-base

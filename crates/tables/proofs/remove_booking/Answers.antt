@@ -25,20 +25,19 @@ move_bookings_down-requires c =
 
 pub returns : goal.returns
 returns c =
-    let d = c in
-    let t = d.load_sizes-sizes.result in
-    let z = sizes d.before.before.before.before.before.before.before.before.before.before.before.before.before.before in
+    let t = c.load_sizes-sizes.result in
+    let z = sizes c.before.before.before.before.before.before.before.before.before.before.before.before.before.before in
     let moved = c.move_bookings_down in
     let emptied = c.store_booking in
     let last = c.store_counts in
-    let room = d.args.room.now in
-    let i = d.args.i in
+    let room = c.args.room.now in
+    let i = c.args.i in
     let bs = (contents_of room).bookings in
     let all : t.live ≤ length bs = rw bookings-length (omega arith) in
     let taken_out = closed i t.live empty_booking in
-    let a = booking-replaced room moved.new.room (moved_down i t.live empty_booking) moved.ensures (base_of t.names) (ap base_of z.names) taken_out emptied.new.room (t.live - 1) empty_booking d.requires.0
+    let a = booking-replaced room moved.new.room (moved_down i t.live empty_booking) moved.ensures (base_of t.names) (ap base_of z.names) taken_out emptied.new.room (t.live - 1) empty_booking c.requires.0
     (omega arith) (emptied.ensures.stored, emptied.ensures.fits) (closed-set i t.live _ empty_booking bs (omega arith) all) in
-    counted (on_bookings taken_out) (removed_booking i) room emptied.new.room last.new.room t.used (t.live - 1) (stays (on_bookings taken_out) room emptied.new.room (λ c. refl) d.requires.0 a) a
+    counted (on_bookings taken_out) (removed_booking i) room emptied.new.room last.new.room t.used (t.live - 1) (stays (on_bookings taken_out) room emptied.new.room (λ c. refl) c.requires.0 a) a
     (last.ensures.stored, last.ensures.fits) (removed (contents_of room) t z.sizes i)
 
 pub overflow_mul-base : goal.overflow_mul-base

@@ -1,20 +1,13 @@
 -- `recorder::operations::write`: each arm's function has promised the operation of its codes. By hand is what a range and a `|` leave of the code, and that what no arm
 -- takes is above 14 or 0 (`unknown-frame`).
-use mathlib.Core.Path.{◌≡◌}
-use mathlib.Core.Logic.{inl, inr, ⊎_elim, ◌≢◌}
-use Prim.Native.Nat.{ℕ, ◌<◌}
+use mathlib.Core.Logic.{inl, inr, ⊎_elim}
+use Prim.Native.Nat.{◌<◌}
 use native.Mathlib.Omega.{arith}
 use Rattle.rules.proofs.Tests.{equal_or_not}
 use Rattle.recorder.specs.Recording.{parts}
 use Rattle.recorder.proofs.OperationFrames.{at_code, fence-behind, since-behind, no-operation, unknown-frame}
 use Rattle.recorder.proofs.operations.write.Goals as goal
 use Rattle.recorder.proofs.operations.write.Goals.{in-14-1, in_default+else-code-lt1+else-code-lt5+then-code-lt10}
-
-eight-or-nine : (code : ℕ) → 4 < code → code < 10 → code ≢ 5 → code ≢ 6 → code ≢ 7 → code ≢ 8 → code ≡ 9
-eight-or-nine code low high five six seven eight = omega arith
-
-above : (code : ℕ) → 9 < code → code ≢ 10 → code ≢ 11 → code ≢ 12 → code ≢ 13 → code ≢ 14 → 14 < code
-above code low ten eleven twelve thirteen fourteen = omega arith
 
 -- the arms 8 and 9 come as a range, and 14 by itself
 pub write_snapshot-requires : goal.write_snapshot-requires
