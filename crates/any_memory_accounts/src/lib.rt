@@ -4,167 +4,119 @@
 #![tactic(auto)]
 
 ghost use Rattle.rules.specs.AccountRules.{ensure, top_up, limit, reserve, commit, release, operate};
-ghost use Rattle.accounts.specs.Answers.{ensured_reply, topped_up_reply, limited_reply};
-ghost use Rattle.reservations.specs.Answers.{reserved_reply, committed_reply, released_reply};
 ghost use Rattle.rules.specs.AccountRules.{read_remaining, read_initial, read_committed, read_reserved, read_committed_total, read_accounts, read_live, read_last_version, read_committed_since, read_ledger};
-ghost use Rattle.reads.specs.Answers.{reading_reply, total_reply};
+ghost use Rattle.refusals.specs.Answers.{answer_of, carries_nothing, carries_amount, carries_count, carries_version};
+ghost use Rattle.accounts.specs.Answers.{carries_top_up};
+ghost use Rattle.reservations.specs.Answers.{carries_grant, carries_commit, carries_release};
 ghost use Rattle.room.specs.Room.{Answers};
-ghost use Rattle.any_memory_accounts.specs.Tells.{Tells, counted_reply, versioned_reply, since_reply};
+ghost use Rattle.any_memory_accounts.specs.Tells.{Tells};
 
-use accounts::{Ensured, Limited, ToppedUp};
+use accounts::ToppedUp;
 use numbers::{Identifier, Microcents};
-use reads::{Reading, Total};
-use reservations::{Committed, Released, Reserved};
+use refusals::Refusal;
+use reservations::{Committed, Granted, Released};
 
-#[derive(Clone, Copy)]
-pub enum Counted {
-    Count(u64),
-    UnsoundLedger,
-}
-
-#[derive(Clone, Copy)]
-pub enum Versioned {
-    Version(u64),
-    UnsoundLedger,
-}
-
-#[derive(Clone, Copy)]
-pub enum Since {
-    Amount(Microcents),
-    UnsoundLedger,
-}
-
-pub fn ensure(room: &mut [u8], name: &[u8], amount: Microcents) -> Ensured
-    ensures { Answers (λ L. operate L (ensure name.now amount.0)) room.old (ensured_reply result) room.new }
+pub fn ensure(room: &mut [u8], name: &[u8], amount: Microcents) -> Result<(), Refusal>
+    ensures { Answers (λ L. operate L (ensure name.now amount.0)) room.old (answer_of carries_nothing result) room.new }
 {
-    if !soundness::is_sound(room) {
-        return Ensured::UnsoundLedger;
-    }
+    soundness::expect_sound(room)?;
     accounts::ensure(room, name, amount)
 }
 
-pub fn top_up(room: &mut [u8], name: &[u8], amount: Microcents) -> ToppedUp
-    ensures { Answers (λ L. operate L (top_up name.now amount.0)) room.old (topped_up_reply result) room.new }
+pub fn top_up(room: &mut [u8], name: &[u8], amount: Microcents) -> Result<ToppedUp, Refusal>
+    ensures { Answers (λ L. operate L (top_up name.now amount.0)) room.old (answer_of carries_top_up result) room.new }
 {
-    if !soundness::is_sound(room) {
-        return ToppedUp::UnsoundLedger;
-    }
+    soundness::expect_sound(room)?;
     accounts::top_up(room, name, amount)
 }
 
-pub fn limit(room: &mut [u8], name: &[u8], amount: Microcents) -> Limited
-    ensures { Answers (λ L. operate L (limit name.now amount.0)) room.old (limited_reply result) room.new }
+pub fn limit(room: &mut [u8], name: &[u8], amount: Microcents) -> Result<(), Refusal>
+    ensures { Answers (λ L. operate L (limit name.now amount.0)) room.old (answer_of carries_nothing result) room.new }
 {
-    if !soundness::is_sound(room) {
-        return Limited::UnsoundLedger;
-    }
+    soundness::expect_sound(room)?;
     accounts::limit(room, name, amount)
 }
 
-pub fn reserve(room: &mut [u8], name: &[u8], cost: Microcents) -> Reserved
-    ensures { Answers (λ L. operate L (reserve name.now cost.0)) room.old (reserved_reply result) room.new }
+pub fn reserve(room: &mut [u8], name: &[u8], cost: Microcents) -> Result<Granted, Refusal>
+    ensures { Answers (λ L. operate L (reserve name.now cost.0)) room.old (answer_of carries_grant result) room.new }
 {
-    if !soundness::is_sound(room) {
-        return Reserved::UnsoundLedger;
-    }
+    soundness::expect_sound(room)?;
     reservations::reserve(room, name, cost)
 }
 
-pub fn commit(room: &mut [u8], id: Identifier, actual: Microcents) -> Committed
-    ensures { Answers (λ L. operate L (commit id.0 actual.0)) room.old (committed_reply result) room.new }
+pub fn commit(room: &mut [u8], id: Identifier, actual: Microcents) -> Result<Committed, Refusal>
+    ensures { Answers (λ L. operate L (commit id.0 actual.0)) room.old (answer_of carries_commit result) room.new }
 {
-    if !soundness::is_sound(room) {
-        return Committed::UnsoundLedger;
-    }
+    soundness::expect_sound(room)?;
     reservations::commit(room, id, actual)
 }
 
-pub fn release(room: &mut [u8], id: Identifier) -> Released
-    ensures { Answers (λ L. operate L (release id.0)) room.old (released_reply result) room.new }
+pub fn release(room: &mut [u8], id: Identifier) -> Result<Released, Refusal>
+    ensures { Answers (λ L. operate L (release id.0)) room.old (answer_of carries_release result) room.new }
 {
-    if !soundness::is_sound(room) {
-        return Released::UnsoundLedger;
-    }
+    soundness::expect_sound(room)?;
     reservations::release(room, id)
 }
 
-pub fn remaining(room: &[u8], name: &[u8]) -> Reading
-    ensures { Tells (λ L. (operate L (read_remaining name.now)).reply) room.now (reading_reply result) }
+pub fn remaining(room: &[u8], name: &[u8]) -> Result<Microcents, Refusal>
+    ensures { Tells (λ L. (operate L (read_remaining name.now)).reply) room.now (answer_of carries_amount result) }
 {
-    if !soundness::is_sound(room) {
-        return Reading::UnsoundLedger;
-    }
+    soundness::expect_sound(room)?;
     reads::remaining(room, name)
 }
 
-pub fn initial(room: &[u8], name: &[u8]) -> Reading
-    ensures { Tells (λ L. (operate L (read_initial name.now)).reply) room.now (reading_reply result) }
+pub fn initial(room: &[u8], name: &[u8]) -> Result<Microcents, Refusal>
+    ensures { Tells (λ L. (operate L (read_initial name.now)).reply) room.now (answer_of carries_amount result) }
 {
-    if !soundness::is_sound(room) {
-        return Reading::UnsoundLedger;
-    }
+    soundness::expect_sound(room)?;
     reads::initial(room, name)
 }
 
-pub fn committed(room: &[u8], name: &[u8]) -> Reading
-    ensures { Tells (λ L. (operate L (read_committed name.now)).reply) room.now (reading_reply result) }
+pub fn committed(room: &[u8], name: &[u8]) -> Result<Microcents, Refusal>
+    ensures { Tells (λ L. (operate L (read_committed name.now)).reply) room.now (answer_of carries_amount result) }
 {
-    if !soundness::is_sound(room) {
-        return Reading::UnsoundLedger;
-    }
+    soundness::expect_sound(room)?;
     reads::committed(room, name)
 }
 
-pub fn reserved(room: &[u8], name: &[u8]) -> Reading
-    ensures { Tells (λ L. (operate L (read_reserved name.now)).reply) room.now (reading_reply result) }
+pub fn reserved(room: &[u8], name: &[u8]) -> Result<Microcents, Refusal>
+    ensures { Tells (λ L. (operate L (read_reserved name.now)).reply) room.now (answer_of carries_amount result) }
 {
-    if !soundness::is_sound(room) {
-        return Reading::UnsoundLedger;
-    }
+    soundness::expect_sound(room)?;
     reads::reserved(room, name)
 }
 
-pub fn committed_total(room: &[u8]) -> Total
-    ensures { Tells (λ L. read_ledger L read_committed_total) room.now (total_reply result) }
+pub fn committed_total(room: &[u8]) -> Result<Microcents, Refusal>
+    ensures { Tells (λ L. read_ledger L read_committed_total) room.now (answer_of carries_amount result) }
 {
-    if !soundness::is_sound(room) {
-        return Total::UnsoundLedger;
-    }
+    soundness::expect_sound(room)?;
     reads::committed_total(room)
 }
 
-pub fn accounts(room: &[u8]) -> Counted
-    ensures { Tells (λ L. read_ledger L read_accounts) room.now (counted_reply result) }
+pub fn accounts(room: &[u8]) -> Result<u64, Refusal>
+    ensures { Tells (λ L. read_ledger L read_accounts) room.now (answer_of carries_count result) }
 {
-    if !soundness::is_sound(room) {
-        return Counted::UnsoundLedger;
-    }
-    Counted::Count(reads::accounts(room))
+    soundness::expect_sound(room)?;
+    Ok(reads::accounts(room))
 }
 
-pub fn live(room: &[u8]) -> Counted
-    ensures { Tells (λ L. read_ledger L read_live) room.now (counted_reply result) }
+pub fn live(room: &[u8]) -> Result<u64, Refusal>
+    ensures { Tells (λ L. read_ledger L read_live) room.now (answer_of carries_count result) }
 {
-    if !soundness::is_sound(room) {
-        return Counted::UnsoundLedger;
-    }
-    Counted::Count(reads::live(room))
+    soundness::expect_sound(room)?;
+    Ok(reads::live(room))
 }
 
-pub fn last_version(room: &[u8]) -> Versioned
-    ensures { Tells (λ L. read_ledger L read_last_version) room.now (versioned_reply result) }
+pub fn last_version(room: &[u8]) -> Result<u64, Refusal>
+    ensures { Tells (λ L. read_ledger L read_last_version) room.now (answer_of carries_version result) }
 {
-    if !soundness::is_sound(room) {
-        return Versioned::UnsoundLedger;
-    }
-    Versioned::Version(reads::last_version(room))
+    soundness::expect_sound(room)?;
+    Ok(reads::last_version(room))
 }
 
-pub fn committed_since(room: &[u8]) -> Since
-    ensures { Tells (λ L. read_ledger L read_committed_since) room.now (since_reply result) }
+pub fn committed_since(room: &[u8]) -> Result<Microcents, Refusal>
+    ensures { Tells (λ L. read_ledger L read_committed_since) room.now (answer_of carries_amount result) }
 {
-    if !soundness::is_sound(room) {
-        return Since::UnsoundLedger;
-    }
-    Since::Amount(reads::committed_since(room))
+    soundness::expect_sound(room)?;
+    Ok(reads::committed_since(room))
 }

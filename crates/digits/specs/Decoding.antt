@@ -1,19 +1,17 @@
 -- What the decoding of a line promises of the lent room: the frame's bytes at its front, or no frame.
-use Rattle.std.specs.Prelude.{◌≡◌, List, ◌++◌, ℕ, ◌+◌, ◌≤◌, ◌<◌, length, take, drop}
+use Rattle.std.specs.Prelude.{◌≡◌, List, ◌++◌, ℕ, ◌+◌, ◌≤◌, ◌<◌, length, take, drop, Option as Found, Some, None}
 use Rattle.std.proofs.Math.Option.{Option, none, some}
 use Rattle.rules.specs.Frames.{bytes_of_line}
-use Rattle.digits.specs.declared.Decoded.{Decoded}
-use Rattle.digits.specs.declared.Decoded.TheVariants.{Bytes, BadFrame}
 
-pub record HasBytes (bs before after : List ℕ) (r : Decoded) : Type 0 where
-  pub answer : r ≡ Bytes (length bs)
+pub record HasBytes (bs before after : List ℕ) (r : Found ℕ) : Type 0 where
+  pub answer : r ≡ Some (length bs)
   pub room : after ≡ bs ++ drop (length bs) before
 
-pub record NoBytes (before after : List ℕ) (r : Decoded) : Type 0 where
-  pub answer : r ≡ BadFrame
+pub record NoBytes (before after : List ℕ) (r : Found ℕ) : Type 0 where
+  pub answer : r ≡ None
   pub size : length after ≡ length before
 
-abbrev pub Decodes : Option (List ℕ) → (before after : List ℕ) → Decoded → Type 0
+abbrev pub Decodes : Option (List ℕ) → (before after : List ℕ) → Found ℕ → Type 0
 Decodes none before after r = NoBytes before after r
 Decodes (some bs) before after r = HasBytes bs before after r
 

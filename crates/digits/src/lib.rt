@@ -11,13 +11,6 @@ ghost use Rattle.digits.specs.Decoding.{Decodes, FrontDecoded};
 
 use crate::table::{CHARACTER, DIGIT};
 
-// What a line comes to: so many bytes, or no frame.
-#[derive(Clone, Copy)]
-pub enum Decoded {
-    Bytes(usize),
-    BadFrame,
-}
-
 fn digit(table: &[u8; 256], character: u8) -> u8
     requires { Gives digit_of 256 table.now }
     ensures { result ≡ digit_of character }
@@ -55,15 +48,15 @@ pub fn front_bytes(line: &[u8], bytes: &mut [u8]) -> usize
 }
 
 // Document 01, "Frames": all of the line is pairs of digits, or it is no frame.
-pub fn bytes_of_line(line: &[u8], bytes: &mut [u8]) -> Decoded
+pub fn bytes_of_line(line: &[u8], bytes: &mut [u8]) -> Option<usize>
     requires { length line.now ≤ 2 * length bytes.old }
     ensures { Decodes (bytes_of_line line.now) bytes.old bytes.new result }
 {
     let size = front_bytes(line, bytes);
     if size + size < line.len() {
-        return Decoded::BadFrame;
+        return None;
     }
-    Decoded::Bytes(size)
+    Some(size)
 }
 
 fn character(table: &[u8; 16], digit: u8) -> u8

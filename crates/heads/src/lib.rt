@@ -6,19 +6,15 @@ ghost use Rattle.std.specs.Prelude.{◌≤◌, ◌≡◌};
 ghost use Rattle.rules.specs.RoomAndSoundLedger.{M};
 ghost use Rattle.heads.specs.Heads.{identifier_at, next_after, drawn_head, stamped_head, since_baseline, larger, rotated_head};
 
-use numbers::{Drawing, Identifier};
+use numbers::Identifier;
 use records::Head;
+use refusals::Refusal;
 
+// The id drawn, or that they are used up, and the head after it.
 #[derive(Clone, Copy)]
 pub struct Drawn {
-    pub drawing: Drawing,
+    pub id: Option<Identifier>,
     pub head: Head,
-}
-
-#[derive(Clone, Copy)]
-pub enum Stamped {
-    Next(Head),
-    AllocatorExhausted,
 }
 
 #[derive(Clone, Copy)]
@@ -30,13 +26,13 @@ pub struct Rotated {
 // Every test stands in the four functions that come first, which are by value: what is then changed in place is a straight line.
 
 // "the id drawn is the old next id", and at M there is none.
-fn identifier_at(next_id: u64) -> Drawing
+fn identifier_at(next_id: u64) -> Option<Identifier>
     ensures { result ≡ identifier_at next_id }
 {
     if next_id < rules::M {
-        return Drawing::Identifier(Identifier(next_id));
+        return Some(Identifier(next_id));
     }
-    Drawing::AllocatorExhausted
+    None
 }
 
 fn next_after(next_id: u64) -> u64
@@ -67,12 +63,12 @@ fn larger(baseline: u64, total: u64) -> u64
 }
 
 // "next id grows by 1", but for M: then the refusal, and the head as it was.
-pub fn draw(head: &mut Head) -> Drawing
-    ensures { (result ≡ (drawn_head head.old).drawing) × (head.new ≡ (drawn_head head.old).head) }
+pub fn draw(head: &mut Head) -> Option<Identifier>
+    ensures { (result ≡ (drawn_head head.old).id) × (head.new ≡ (drawn_head head.old).head) }
 {
-    let drawing = identifier_at(head.next_id);
+    let id = identifier_at(head.next_id);
     head.next_id = next_after(head.next_id);
-    drawing
+    id
 }
 
 // Document 01, Snapshots, certificate of the ledger: what was committed past the baseline, which follows a total only upwards.
@@ -88,8 +84,8 @@ pub fn rotate(head: &mut Head, total: u64) -> u64
 pub fn after_draw(mut head: Head) -> Drawn
     ensures { result ≡ drawn_head head }
 {
-    let drawing = draw(&mut head);
-    Drawn { drawing, head }
+    let id = draw(&mut head);
+    Drawn { id, head }
 }
 
 pub fn after_rotation(mut head: Head, total: u64) -> Rotated
@@ -100,18 +96,17 @@ pub fn after_rotation(mut head: Head, total: u64) -> Rotated
 }
 
 // Document 01, Snapshots, the taking of one: refused at M; else the id after the one drawn, tagged, is the last version.
-pub fn stamp(head: Head) -> Stamped
+pub fn stamp(head: Head) -> Result<Head, Refusal>
     requires { head.next_id ≤ M }
     ensures { result ≡ stamped_head head }
 {
     let drawn = after_draw(head);
-    let drawing = drawn.drawing;
-    let Drawing::Identifier(_identifier) = drawing else {
-        return Stamped::AllocatorExhausted;
+    let Some(_id) = drawn.id else {
+        return Err(Refusal::AllocatorExhausted);
     };
     let next = drawn.head;
     let last_version = big_endian::tagged(next.next_id);
-    Stamped::Next(Head {
+    Ok(Head {
         next_id: next.next_id,
         last_version,
         baseline: next.baseline,

@@ -10,9 +10,8 @@ ghost use Rattle.records.specs.Rows.{row};
 ghost use Rattle.records.specs.Records.{place_of};
 ghost use Rattle.room.specs.Contents.{contents_of, used_places, live_bookings, place_of_name, place_for_name, booking_of_id, Searchable};
 
-use names::Order;
 use numbers::Identifier;
-use room::Found;
+use std::cmp::Ordering;
 
 // The name at place i where it stands in the room: its length, and after that its bytes.
 fn name_at(room: &[u8], i: usize) -> &[u8]
@@ -26,7 +25,7 @@ fn name_at(room: &[u8], i: usize) -> &[u8]
 }
 
 // The place of a name, or that it is absent: place by place.
-pub fn find(room: &[u8], part: &[u8]) -> Found
+pub fn find(room: &[u8], part: &[u8]) -> Option<usize>
     requires { Searchable room.now }
     ensures { result ≡ place_of_name part.now (used_places (contents_of room.now)) }
 {
@@ -35,11 +34,11 @@ pub fn find(room: &[u8], part: &[u8]) -> Found
     let mut i = 0;
     while i < used {
         if names::is_same(part, name_at(room, i)) {
-            return Found::At(i);
+            return Some(i);
         }
         i += 1;
     }
-    Found::Absent
+    None
 }
 
 // Where a new name goes: behind the names that come before it.
@@ -51,7 +50,7 @@ pub fn place_for(room: &[u8], part: &[u8]) -> usize
     let used = sizes.used as usize;
     let mut i = 0;
     while i < used {
-        let Order::Before = names::compare(name_at(room, i), part) else {
+        let Ordering::Less = names::compare(name_at(room, i), part) else {
             return i;
         };
         i += 1;
@@ -60,7 +59,7 @@ pub fn place_for(room: &[u8], part: &[u8]) -> usize
 }
 
 // A live booking by its id, by halving: ids ascend.
-pub fn find_booking(room: &[u8], id: Identifier) -> Found
+pub fn find_booking(room: &[u8], id: Identifier) -> Option<usize>
     requires { Searchable room.now }
     ensures { result ≡ booking_of_id id.0 (live_bookings (contents_of room.now)) }
 {
@@ -72,7 +71,7 @@ pub fn find_booking(room: &[u8], id: Identifier) -> Found
         let middle = (low + high) / 2;
         let booking = records::load_booking(room, base, middle);
         if booking.id.0 == id.0 {
-            return Found::At(middle);
+            return Some(middle);
         }
         if booking.id.0 < id.0 {
             low = middle + 1;
@@ -80,5 +79,5 @@ pub fn find_booking(room: &[u8], id: Identifier) -> Found
             high = middle;
         }
     }
-    Found::Absent
+    None
 }

@@ -1,26 +1,11 @@
 -- What a place keeps of a name beside the name itself, and what each answer of a rule by value means as a move of the rules.
-use Rattle.std.specs.Prelude.{◌≡◌, cond, ◌&&◌, [], ◌∷◌, ℕ, ◌≤◌, ltb, eqb, ℤ, pos}
+use Rattle.std.specs.Prelude.{◌≡◌, cond, List, [], ◌∷◌, ℕ, ◌≤◌, eqb, ℤ, pos, Option as Answer, Some, None, Result, Ok, Err}
 use Rattle.std.proofs.Math.Option.{Option, none, some}
 use Rattle.rules.specs.RoomAndSoundLedger.{M, Account, Seat as RulesSeat, seat, AddsUp}
-use Rattle.rules.specs.AnswerNumbers.{NegativeAmount, MissingTenant, OverflowOfTopUp, Insufficient, Overrun}
 use Rattle.rules.specs.AccountRules.{Move, refuse, tell, write, lose, book, Settlement, leave, end}
 use Rattle.moves.specs.declared.Seat.{Seat}
-use Rattle.moves.specs.declared.Tenant.{Tenant}
-use Rattle.moves.specs.declared.Tenant.TheVariants as tenant
-use Rattle.moves.specs.declared.Ensuring.{Ensuring}
-use Rattle.moves.specs.declared.Ensuring.TheVariants.{Present, Opened}
-use Rattle.moves.specs.declared.ToppingUp.{ToppingUp}
-use Rattle.moves.specs.declared.ToppingUp.TheVariants.{Overflow, Grown}
-use Rattle.moves.specs.declared.Limiting.{Limiting}
-use Rattle.moves.specs.declared.Limiting.TheVariants as limiting
-use Rattle.moves.specs.declared.Exposure.{Exposure}
-use Rattle.moves.specs.declared.Exposure.TheVariants.{Within, Exceeded}
-use Rattle.moves.specs.declared.Reserving.{Reserving}
-use Rattle.moves.specs.declared.Reserving.TheVariants as reserving
-use Rattle.moves.specs.declared.Committing.{Committing}
-use Rattle.moves.specs.declared.Committing.TheVariants as committing
-use Rattle.moves.specs.declared.Releasing.{Releasing}
-use Rattle.moves.specs.declared.Releasing.TheVariants as releasing
+use Rattle.refusals.specs.declared.Refusal.{Refusal}
+use Rattle.refusals.specs.Answers.{refusal_of}
 
 abbrev pub account_in : Seat → Account
 account_in s = record { initial = s.initial; remaining = s.remaining; reserved = s.reserved; committed = s.committed }
@@ -28,9 +13,6 @@ account_in s = record { initial = s.initial; remaining = s.remaining; reserved =
 -- the account, where the flag says that there is one
 abbrev pub account_of : Seat → Option Account
 account_of s = cond (eqb s.account 0) none (some (account_in s))
-
-abbrev pub tenant_of : Seat → Tenant
-tenant_of s = cond (eqb s.account 0) tenant.Missing tenant.Present
 
 abbrev pub meaning : Seat → RulesSeat
 meaning s = seat (account_of s) s.limit
@@ -49,57 +31,36 @@ pub record SeatSound (s : Seat) : Type 0 where
   pub adds_up : AddsUp (account_of s)
   pub limit : s.limit ≤ M
 
-abbrev pub exposure_of : (limit reserved : ℕ) → Exposure
-exposure_of limit reserved = cond (ltb 0 limit && ltb limit reserved) Exceeded Within
-
 -- ── what the answers mean ──────────────────────────────────────────────────────────────────────
 
-abbrev pub ensuring_move : Ensuring → Move
-ensuring_move Present = tell []
-ensuring_move (Opened s) = write [] (meaning s)
+-- the account that is opened, or none where there is one
+abbrev pub ensuring_move : Answer Seat → Move
+ensuring_move None = tell []
+ensuring_move (Some s) = write [] (meaning s)
 
-abbrev pub topping_up_move : ℤ → ToppingUp → Move
-topping_up_move z Overflow = refuse OverflowOfTopUp
-topping_up_move z (Grown s) = write (z ∷ pos s.initial ∷ pos s.remaining ∷ []) (meaning s)
+-- the seat that is written, which carries these amounts, or the refusal
+abbrev pub decided : (carried : Seat → List ℤ) → Result Seat Refusal → Move
+decided carried (Ok s) = write (carried s) (meaning s)
+decided carried (Err e) = refuse (refusal_of e)
 
-abbrev pub limiting_move : ℤ → Limiting → Move
-limiting_move z limiting.Negative = refuse (NegativeAmount z)
-limiting_move z (limiting.Changed s) = write [] (meaning s)
+abbrev pub topping_up_move : ℤ → Result Seat Refusal → Move
+topping_up_move z r = decided (λ s. z ∷ pos s.initial ∷ pos s.remaining ∷ []) r
 
-abbrev pub reserving_move : (cost remaining : ℕ) → Reserving → Move
-reserving_move cost remaining reserving.Insufficient = lose (Insufficient (pos remaining) (pos cost))
-reserving_move cost remaining (reserving.Booked s) = book s.remaining (meaning s) cost
+abbrev pub limiting_move : Result Seat Refusal → Move
+limiting_move r = decided (λ s. []) r
 
-abbrev pub committing_settlement : ℤ → (remaining : ℕ) → Committing → Settlement
-committing_settlement z remaining committing.Overrun = leave (Overrun (pos remaining))
-committing_settlement z remaining (committing.Ended s) = end (pos s.remaining ∷ z ∷ []) (meaning s)
+-- a refusal uses the id up
+abbrev pub reserving_move : (cost : ℕ) → Result Seat Refusal → Move
+reserving_move cost (Ok s) = book s.remaining (meaning s) cost
+reserving_move cost (Err e) = lose (refusal_of e)
 
-abbrev pub releasing_settlement : (reserved : ℕ) → Releasing → Settlement
-releasing_settlement reserved releasing.Missing = leave MissingTenant
-releasing_settlement reserved (releasing.Returned s) = end (pos s.remaining ∷ pos reserved ∷ []) (meaning s)
+-- the reservation ends with these amounts carried, or stays
+abbrev pub settled : (carried : Seat → List ℤ) → Result Seat Refusal → Settlement
+settled carried (Ok s) = end (carried s) (meaning s)
+settled carried (Err e) = leave (refusal_of e)
 
--- ── a seat that is written is sound, in its one form ───────────────────────────────────────────
+abbrev pub committing_settlement : ℤ → Result Seat Refusal → Settlement
+committing_settlement z r = settled (λ s. pos s.remaining ∷ z ∷ []) r
 
-abbrev pub EnsuringSound : Ensuring → Type 0
-EnsuringSound Present = Unit {0}
-EnsuringSound (Opened s) = SeatSound s
-
-abbrev pub ToppingUpSound : ToppingUp → Type 0
-ToppingUpSound Overflow = Unit {0}
-ToppingUpSound (Grown s) = SeatSound s
-
-abbrev pub LimitingSound : Limiting → Type 0
-LimitingSound limiting.Negative = Unit {0}
-LimitingSound (limiting.Changed s) = SeatSound s
-
-abbrev pub ReservingSound : Reserving → Type 0
-ReservingSound reserving.Insufficient = Unit {0}
-ReservingSound (reserving.Booked s) = SeatSound s
-
-abbrev pub CommittingSound : Committing → Type 0
-CommittingSound committing.Overrun = Unit {0}
-CommittingSound (committing.Ended s) = SeatSound s
-
-abbrev pub ReleasingSound : Releasing → Type 0
-ReleasingSound releasing.Missing = Unit {0}
-ReleasingSound (releasing.Returned s) = SeatSound s
+abbrev pub releasing_settlement : (reserved : ℕ) → Result Seat Refusal → Settlement
+releasing_settlement reserved r = settled (λ s. pos s.remaining ∷ pos reserved ∷ []) r

@@ -2,15 +2,14 @@
 
 #![tactic(auto)]
 
-ghost use Rattle.std.specs.Prelude.{◌≡◌, false, ◌&&◌, ◌+◌, ◌≤◌, ◌<◌, ltb, pos};
+ghost use Rattle.std.specs.Prelude.{◌≡◌, true, false, ◌&&◌, ◌+◌, ◌≤◌, ◌<◌, ltb, pos, IfOk, IfSome};
 ghost use Rattle.std.proofs.Math.Option.{some};
-ghost use Rattle.rules.specs.RoomAndSoundLedger.{M};
+ghost use Rattle.rules.specs.RoomAndSoundLedger.{M, has_account};
 ghost use Rattle.rules.specs.AccountRules.{ensure_rule, top_up_rule, limit_rule, reserve_rule, commit_rule, release_rule};
-ghost use Rattle.moves.specs.declared.Tenant.TheVariants.{Present};
-ghost use Rattle.moves.specs.declared.Exposure.TheVariants.{Within};
-ghost use Rattle.moves.specs.Moves.{SeatSound, account_of, tenant_of, exposure_of, ensuring_move, topping_up_move, limiting_move, reserving_move, committing_settlement, releasing_settlement, EnsuringSound, ToppingUpSound, LimitingSound, ReservingSound, CommittingSound, ReleasingSound};
+ghost use Rattle.moves.specs.Moves.{SeatSound, account_of, ensuring_move, topping_up_move, limiting_move, reserving_move, committing_settlement, releasing_settlement};
 
-use numbers::{Held, Microcents, Remainder, Sign, Sum};
+use numbers::{Held, Microcents};
+use refusals::Refusal;
 
 // What a place keeps of a name beside the name: account is 1 with an account and 0 without one, and a limit of 0 is none.
 #[derive(Clone, Copy)]
@@ -23,75 +22,21 @@ pub struct Seat {
     pub account: u8,
 }
 
-// Whether a name has an account.
-#[derive(Clone, Copy)]
-pub enum Tenant {
-    Present,
-    Missing,
-}
-
-#[derive(Clone, Copy)]
-pub enum Ensuring {
-    Present,
-    Opened(Seat),
-}
-
-#[derive(Clone, Copy)]
-pub enum ToppingUp {
-    Overflow,
-    Grown(Seat),
-}
-
-#[derive(Clone, Copy)]
-pub enum Limiting {
-    Negative,
-    Changed(Seat),
-}
-
-// A sum of reserved amounts against a limit.
-#[derive(Clone, Copy)]
-pub enum Exposure {
-    Within,
-    Exceeded,
-}
-
-// Insufficient uses the id up all the same; the room for a booking is asked by the caller, last.
-#[derive(Clone, Copy)]
-pub enum Reserving {
-    Insufficient,
-    Booked(Seat),
-}
-
-#[derive(Clone, Copy)]
-pub enum Committing {
-    Overrun,
-    Ended(Seat),
-}
-
-#[derive(Clone, Copy)]
-pub enum Releasing {
-    Missing,
-    Returned(Seat),
-}
-
-pub fn tenant_of(seat: Seat) -> Tenant
-    ensures { result ≡ tenant_of seat }
+pub fn has_account(seat: Seat) -> bool
+    ensures { result ≡ has_account (account_of seat) }
 {
-    if seat.account == 0 {
-        return Tenant::Missing;
-    }
-    Tenant::Present
+    seat.account != 0
 }
 
-// Opens an account with an amount that is not negative, where the name has none.
-pub fn ensure(seat: Seat, opening: u64) -> Ensuring
+// Opens an account with an amount that is not negative, where the name has none: one that is there stays as it is.
+pub fn ensure(seat: Seat, opening: u64) -> Option<Seat>
     requires { SeatSound seat × (opening ≤ M) }
-    ensures { (ensuring_move result ≡ ensure_rule (pos opening) (account_of seat) seat.limit) × EnsuringSound result }
+    ensures { (ensuring_move result ≡ ensure_rule (pos opening) (account_of seat) seat.limit) × IfSome result SeatSound }
 {
-    let Tenant::Missing = tenant_of(seat) else {
-        return Ensuring::Present;
-    };
-    Ensuring::Opened(Seat {
+    if has_account(seat) {
+        return None;
+    }
+    Some(Seat {
         initial: opening,
         remaining: opening,
         reserved: 0,
@@ -102,14 +47,14 @@ pub fn ensure(seat: Seat, opening: u64) -> Ensuring
 }
 
 // Adds a positive amount to an account.
-pub fn top_up(seat: Seat, added: u64) -> ToppingUp
-    requires { SeatSound seat × (tenant_of seat ≡ Present) × (0 < added) }
-    ensures { (topping_up_move (pos added) result ≡ top_up_rule (pos added) (account_of seat) seat.limit) × ToppingUpSound result }
+pub fn top_up(seat: Seat, added: u64) -> Result<Seat, Refusal>
+    requires { SeatSound seat × (has_account (account_of seat) ≡ true) × (0 < added) }
+    ensures { (topping_up_move (pos added) result ≡ top_up_rule (pos added) (account_of seat) seat.limit) × IfOk result SeatSound }
 {
-    let Sum::Fits(initial) = numbers::plus(seat.initial, added) else {
-        return ToppingUp::Overflow;
+    let Some(initial) = numbers::plus(seat.initial, added) else {
+        return Err(Refusal::OverflowOfTopUp);
     };
-    ToppingUp::Grown(Seat {
+    Ok(Seat {
         initial,
         remaining: seat.remaining + added,
         reserved: seat.reserved,
@@ -120,14 +65,14 @@ pub fn top_up(seat: Seat, added: u64) -> ToppingUp
 }
 
 // Sets the limit, with or without an account; 0 is none.
-pub fn limit(seat: Seat, amount: Microcents) -> Limiting
+pub fn limit(seat: Seat, amount: Microcents) -> Result<Seat, Refusal>
     requires { SeatSound seat }
-    ensures { (limiting_move amount.0 result ≡ limit_rule amount.0 (account_of seat) seat.limit) × LimitingSound result }
+    ensures { (limiting_move result ≡ limit_rule amount.0 (account_of seat) seat.limit) × IfOk result SeatSound }
 {
-    let Sign::Natural(ceiling) = numbers::sign_of(amount) else {
-        return Limiting::Negative;
+    let Some(ceiling) = numbers::natural_of(amount) else {
+        return Err(Refusal::NegativeAmount(amount));
     };
-    Limiting::Changed(Seat {
+    Ok(Seat {
         initial: seat.initial,
         remaining: seat.remaining,
         reserved: seat.reserved,
@@ -137,34 +82,29 @@ pub fn limit(seat: Seat, amount: Microcents) -> Limiting
     })
 }
 
-// A limit that is set, and that a sum is above.
-fn exceeds(limit: u64, reserved: u64) -> bool
+// A limit that is set, and that a sum of reserved amounts is above.
+pub fn exceeds(limit: u64, reserved: u64) -> bool
     ensures { result ≡ (ltb 0 limit && ltb limit reserved) }
 {
     0 < limit && limit < reserved
 }
 
-pub fn exposure_of(limit: u64, reserved: u64) -> Exposure
-    ensures { result ≡ exposure_of limit reserved }
+// Sets a positive cost aside, where an id was drawn for it. Reserved is the sum with the cost, which the limit allows. Insufficient uses the id up all the
+// same; the room for a booking is asked by the caller, last.
+pub fn reserve(seat: Seat, asked: u64, reserved: u64) -> Result<Seat, Refusal>
+    requires known { SeatSound seat × (has_account (account_of seat) ≡ true) × (0 < asked) }
+    requires sum { (reserved ≡ seat.reserved + asked) × (reserved ≤ M) × ((ltb 0 seat.limit && ltb seat.limit reserved) ≡ false) }
+    ensures { (reserving_move asked result ≡ reserve_rule (pos asked) false (account_of seat) seat.limit) × IfOk result SeatSound }
 {
-    if exceeds(limit, reserved) {
-        return Exposure::Exceeded;
-    }
-    Exposure::Within
-}
-
-// Sets a positive cost aside, where an id was drawn for it. Reserved is the sum with the cost, which the limit allows.
-pub fn reserve(seat: Seat, asked: u64, reserved: u64) -> Reserving
-    requires known { SeatSound seat × (tenant_of seat ≡ Present) × (0 < asked) }
-    requires sum { (reserved ≡ seat.reserved + asked) × (reserved ≤ M) × (exposure_of seat.limit reserved ≡ Within) }
-    ensures { (reserving_move asked seat.remaining result ≡ reserve_rule (pos asked) false (account_of seat) seat.limit) × ReservingSound result }
-{
-    if seat.remaining < asked {
-        return Reserving::Insufficient;
-    }
-    Reserving::Booked(Seat {
+    let Some(remaining) = seat.remaining.checked_sub(asked) else {
+        return Err(Refusal::Insufficient(
+            numbers::amount(seat.remaining),
+            numbers::amount(asked),
+        ));
+    };
+    Ok(Seat {
         initial: seat.initial,
-        remaining: seat.remaining - asked,
+        remaining,
         reserved,
         committed: seat.committed,
         limit: seat.limit,
@@ -173,17 +113,16 @@ pub fn reserve(seat: Seat, asked: u64, reserved: u64) -> Reserving
 }
 
 // Spends what was booked, more or less of it: delta is taken from what remains, or given back where it is negative. Committed is the sum with what is spent.
-pub fn commit(seat: Seat, booked: Held, spent: u64, committed: u64) -> Committing
-    requires known { SeatSound seat × (tenant_of seat ≡ Present) × (booked.0 ≤ seat.reserved) }
+pub fn commit(seat: Seat, booked: Held, spent: u64, committed: u64) -> Result<Seat, Refusal>
+    requires known { SeatSound seat × (has_account (account_of seat) ≡ true) × (booked.0 ≤ seat.reserved) }
     requires sum { (committed ≡ seat.committed + spent) × (committed ≤ M) }
-    ensures { (committing_settlement (pos spent) seat.remaining result ≡ commit_rule (pos spent) (some booked.0) (account_of seat) seat.limit)
-        × CommittingSound result }
+    ensures { (committing_settlement (pos spent) result ≡ commit_rule (pos spent) (some booked.0) (account_of seat) seat.limit) × IfOk result SeatSound }
 {
     let delta = numbers::delta(spent, booked.0);
-    let Remainder::Left(remaining) = numbers::less_delta(seat.remaining, delta) else {
-        return Committing::Overrun;
+    let Some(remaining) = numbers::less_delta(seat.remaining, delta) else {
+        return Err(Refusal::Overrun(numbers::amount(seat.remaining)));
     };
-    Committing::Ended(Seat {
+    Ok(Seat {
         initial: seat.initial,
         remaining,
         reserved: seat.reserved - booked.0,
@@ -194,14 +133,14 @@ pub fn commit(seat: Seat, booked: Held, spent: u64, committed: u64) -> Committin
 }
 
 // Gives back what was booked.
-pub fn release(seat: Seat, booked: Held) -> Releasing
+pub fn release(seat: Seat, booked: Held) -> Result<Seat, Refusal>
     requires { SeatSound seat × (booked.0 ≤ seat.reserved) }
-    ensures { (releasing_settlement booked.0 result ≡ release_rule (some booked.0) (account_of seat) seat.limit) × ReleasingSound result }
+    ensures { (releasing_settlement booked.0 result ≡ release_rule (some booked.0) (account_of seat) seat.limit) × IfOk result SeatSound }
 {
-    let Tenant::Present = tenant_of(seat) else {
-        return Releasing::Missing;
-    };
-    Releasing::Returned(Seat {
+    if !has_account(seat) {
+        return Err(Refusal::MissingTenant);
+    }
+    Ok(Seat {
         initial: seat.initial,
         remaining: seat.remaining + booked.0,
         reserved: seat.reserved - booked.0,

@@ -2,15 +2,15 @@
 use Rattle.std.specs.Prelude.{◌≡◌, Bool, true, false, List, ◌++◌, length, get_or, take, replicate}
 use Prim.Native.Nat.{ℕ, ◌-◌, ◌≤◌, Ordering}
 use Rattle.rules.specs.RoomAndSoundLedger.{longest_name}
-use Rattle.names.specs.declared.Order.{Order}
-use Rattle.names.specs.declared.Order.TheVariants.{Before, Same, After}
+use Rattle.std.specs.declared.cmp.Ordering.{Ordering as Compared}
+use Rattle.std.specs.declared.cmp.Ordering.TheVariants.{Less, Equal, Greater}
 use Rattle.names.specs.declared.Name.{Name}
 
 -- the code's answer, in the words of the rules
-abbrev pub ordering_of : Order → Ordering
-ordering_of Before = Ordering.lt
-ordering_of Same = Ordering.eq
-ordering_of After = Ordering.gt
+abbrev pub ordering_of : Compared → Ordering
+ordering_of Less = Ordering.lt
+ordering_of Equal = Ordering.eq
+ordering_of Greater = Ordering.gt
 
 abbrev pub is_before : Ordering → Bool
 is_before Ordering.lt = true

@@ -8,12 +8,7 @@ ghost use Rattle.rules.specs.RoomAndSoundLedger.{IsByte, order, same, longest_na
 ghost use Rattle.rules.specs.SnapshotsMigrationCertificates.{number_of, name_bytes};
 ghost use Rattle.names.specs.Names.{ordering_of, is_before, spelled, stored, IsStored};
 
-#[derive(Clone, Copy)]
-pub enum Order {
-    Before,
-    Same,
-    After,
-}
+use std::cmp::Ordering;
 
 #[derive(Clone, Copy)]
 pub struct Name {
@@ -22,28 +17,28 @@ pub struct Name {
 }
 
 // "Names are ordered by bytes, a prefix first." Any bytes compare: a name asked for may be too long to be kept.
-pub fn compare(left: &[u8], right: &[u8]) -> Order
+pub fn compare(left: &[u8], right: &[u8]) -> Ordering
     ensures { ordering_of result ≡ order left.now right.now }
 {
     let mut i = 0;
     while i < left.len() {
         if right.len() <= i {
-            return Order::After;
+            return Ordering::Greater;
         }
         let x = left[i];
         let y = right[i];
         if x < y {
-            return Order::Before;
+            return Ordering::Less;
         }
         if y < x {
-            return Order::After;
+            return Ordering::Greater;
         }
         i += 1;
     }
     if i < right.len() {
-        return Order::Before;
+        return Ordering::Less;
     }
-    Order::Same
+    Ordering::Equal
 }
 
 // Whether two names are one name. Names of airlines often begin alike, so their lengths are asked first and then their bytes, the last first.

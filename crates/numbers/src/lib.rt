@@ -6,18 +6,11 @@ ghost use Rattle.std.specs.Prelude.{◌≤◌, ◌≡◌, ◌++◌, pos, ◌-ℤ
 ghost use Rattle.rules.specs.RoomAndSoundLedger.{M};
 ghost use Rattle.rules.specs.AccountRules.{natural};
 ghost use Rattle.numbers.specs.LittleEndian.{little_number, little_bytes};
-ghost use Rattle.numbers.specs.Amounts.{sum_of, sign_of, positive_of, remainder_of};
+ghost use Rattle.numbers.specs.Amounts.{sum_of, natural_of, positive_of, remainder_of};
 
 // What names a reservation.
 #[derive(Clone, Copy)]
 pub struct Identifier(pub u64);
-
-// What a draw of an id answers: the id, or that they are used up.
-#[derive(Clone, Copy)]
-pub enum Drawing {
-    Identifier(Identifier),
-    AllocatorExhausted,
-}
 
 // An amount of money as frames carry it: it may be negative.
 #[derive(Clone, Copy)]
@@ -26,34 +19,6 @@ pub struct Microcents(pub i64);
 // An amount that a reservation holds: it is never negative.
 #[derive(Clone, Copy)]
 pub struct Held(pub u64);
-
-// A sum of two amounts, which may not be above M.
-#[derive(Clone, Copy)]
-pub enum Sum {
-    Fits(u64),
-    AboveM,
-}
-
-// An amount by its sign. Tables hold amounts that are not negative, as unsigned numbers.
-#[derive(Clone, Copy)]
-pub enum Sign {
-    Negative,
-    Natural(u64),
-}
-
-// An amount by whether it is above 0, where a rule refuses 0 or less.
-#[derive(Clone, Copy)]
-pub enum Positive {
-    Amount(u64),
-    ZeroOrLess,
-}
-
-// What a commit's delta leaves of remaining.
-#[derive(Clone, Copy)]
-pub enum Remainder {
-    Left(u64),
-    Overrun,
-}
 
 // Bytes are joined by `|` and shifts, and parted by division: both compile to one load or store of the whole number.
 pub fn read8(bytes: &[u8]) -> u64
@@ -125,38 +90,25 @@ pub fn copy(bytes: &[u8], output: &mut [u8])
     }
 }
 
-// M is 2^63 - 1. The room left below M is compared, so that no sum wraps.
-pub fn plus(a: u64, b: u64) -> Sum
-    requires { a ≤ M }
+// A sum that may not be above M.
+pub fn plus(a: u64, b: u64) -> Option<u64>
     ensures { result ≡ sum_of a b }
 {
-    let room = rules::M - a;
-    if room < b {
-        return Sum::AboveM;
-    }
-    Sum::Fits(a + b)
+    a.checked_add(b).filter(|sum| *sum <= rules::M)
 }
 
-pub fn sign_of(m: Microcents) -> Sign
-    ensures { result ≡ sign_of m.0 }
+// An amount that is not negative: tables hold amounts as unsigned numbers.
+pub fn natural_of(m: Microcents) -> Option<u64>
+    ensures { result ≡ natural_of m.0 }
 {
-    let x = m.0;
-    if x < 0 {
-        return Sign::Negative;
-    }
-    Sign::Natural(x as u64)
+    u64::try_from(m.0).ok()
 }
 
-pub fn positive_of(m: Microcents) -> Positive
+// An amount above 0, where a rule refuses 0 or less.
+pub fn positive_of(m: Microcents) -> Option<u64>
     ensures { result ≡ positive_of m.0 }
 {
-    let Sign::Natural(x) = sign_of(m) else {
-        return Positive::ZeroOrLess;
-    };
-    if x == 0 {
-        return Positive::ZeroOrLess;
-    }
-    Positive::Amount(x)
+    natural_of(m).filter(|x| *x != 0)
 }
 
 pub fn amount(x: u64) -> Microcents
@@ -175,19 +127,14 @@ pub fn delta(actual: u64, reserved: u64) -> Microcents
 }
 
 // Document 01, Account rules, commit: a delta past remaining is an overrun, any other is taken off. One that returns money is negated and added.
-pub fn less_delta(remaining: u64, delta: Microcents) -> Remainder
+pub fn less_delta(remaining: u64, delta: Microcents) -> Option<u64>
     requires { natural (pos remaining -ℤ delta.0) ≤ M }
     ensures { result ≡ remainder_of remaining delta.0 }
 {
     let d = delta.0;
     if d < 0 {
         let returned = (-d) as u64;
-        let risen = remaining + returned;
-        return Remainder::Left(risen);
+        return Some(remaining + returned);
     }
-    let taken = d as u64;
-    if remaining < taken {
-        return Remainder::Overrun;
-    }
-    Remainder::Left(remaining - taken)
+    remaining.checked_sub(d as u64)
 }

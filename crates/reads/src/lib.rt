@@ -6,98 +6,72 @@ ghost use Rattle.std.specs.Prelude.{◌≤◌, ◌≡◌};
 ghost use Rattle.rules.specs.RoomAndSoundLedger.{M, committed_total};
 ghost use Rattle.rules.specs.AccountRules.{read_remaining, read_initial, read_committed, read_reserved, operate, read_committed_total, read_accounts, read_live, read_last_version, read_committed_since, read_ledger};
 ghost use Rattle.room.specs.Room.{SoundRoom, OfRoom};
-ghost use Rattle.reads.specs.Answers.{sought, summed, account_reply, reading_reply, total_reply, count_reply, version_reply, amount_reply};
+ghost use Rattle.rules.specs.AnswerNumbers.{done};
+ghost use Rattle.refusals.specs.Answers.{answer_of, carries_amount, carries_count, carries_version};
+ghost use Rattle.reads.specs.Answers.{sought, summed, account_reply};
 
 use moves::Seat;
-use numbers::{Microcents, Sum};
+use numbers::Microcents;
+use refusals::Refusal;
 
-#[derive(Clone, Copy)]
-pub enum Reading {
-    Amount(Microcents),
-    MissingTenant,
-    NameTooLong,
-    UnsoundLedger,
-}
-
-#[derive(Clone, Copy)]
-pub enum Total {
-    Amount(Microcents),
-    AggregateOverflow,
-    UnsoundLedger,
-}
-
-// The seat of a name that is not too long, or that it is longer.
-#[derive(Clone, Copy)]
-enum Sought {
-    Seat(Seat),
-    NameTooLong,
-}
-
-fn seek(room: &[u8], part: &[u8]) -> Sought
+// The seat of a name that is not too long.
+fn seek(room: &[u8], part: &[u8]) -> Result<Seat, Refusal>
     requires { SoundRoom room.now }
     ensures { OfRoom room.now (λ L. result ≡ sought L part.now) }
 {
     if rules::LONGEST_NAME < part.len() {
-        return Sought::NameTooLong;
+        return Err(Refusal::NameTooLong);
     }
     let found = lookup::find(room, part);
-    Sought::Seat(seats::seat_at(room, found))
+    Ok(seats::seat_at(room, found))
 }
 
 // Document 01, Account rules, reads: without an account three of the four amounts are refused with 3.
-fn of_account(account: u8, amount: u64) -> Reading
+fn of_account(account: u8, amount: u64) -> Result<Microcents, Refusal>
     requires { amount ≤ M }
-    ensures { reading_reply result ≡ account_reply account amount }
+    ensures { answer_of carries_amount result ≡ account_reply account amount }
 {
     if account == 0 {
-        return Reading::MissingTenant;
+        return Err(Refusal::MissingTenant);
     }
-    Reading::Amount(numbers::amount(amount))
+    Ok(numbers::amount(amount))
 }
 
-pub fn remaining(room: &[u8], part: &[u8]) -> Reading
+pub fn remaining(room: &[u8], part: &[u8]) -> Result<Microcents, Refusal>
     requires { SoundRoom room.now }
-    ensures { OfRoom room.now (λ L. reading_reply result ≡ (operate L (read_remaining part.now)).reply) }
+    ensures { OfRoom room.now (λ L. answer_of carries_amount result ≡ (operate L (read_remaining part.now)).reply) }
 {
-    let Sought::Seat(seat) = seek(room, part) else {
-        return Reading::NameTooLong;
-    };
+    let seat = seek(room, part)?;
     of_account(seat.account, seat.remaining)
 }
 
-pub fn initial(room: &[u8], part: &[u8]) -> Reading
+pub fn initial(room: &[u8], part: &[u8]) -> Result<Microcents, Refusal>
     requires { SoundRoom room.now }
-    ensures { OfRoom room.now (λ L. reading_reply result ≡ (operate L (read_initial part.now)).reply) }
+    ensures { OfRoom room.now (λ L. answer_of carries_amount result ≡ (operate L (read_initial part.now)).reply) }
 {
-    let Sought::Seat(seat) = seek(room, part) else {
-        return Reading::NameTooLong;
-    };
+    let seat = seek(room, part)?;
     of_account(seat.account, seat.initial)
 }
 
-pub fn committed(room: &[u8], part: &[u8]) -> Reading
+pub fn committed(room: &[u8], part: &[u8]) -> Result<Microcents, Refusal>
     requires { SoundRoom room.now }
-    ensures { OfRoom room.now (λ L. reading_reply result ≡ (operate L (read_committed part.now)).reply) }
+    ensures { OfRoom room.now (λ L. answer_of carries_amount result ≡ (operate L (read_committed part.now)).reply) }
 {
-    let Sought::Seat(seat) = seek(room, part) else {
-        return Reading::NameTooLong;
-    };
+    let seat = seek(room, part)?;
     of_account(seat.account, seat.committed)
 }
 
 // "reserved of one gives 0": a name without an account has nothing reserved.
-pub fn reserved(room: &[u8], part: &[u8]) -> Reading
+pub fn reserved(room: &[u8], part: &[u8]) -> Result<Microcents, Refusal>
     requires { SoundRoom room.now }
-    ensures { OfRoom room.now (λ L. reading_reply result ≡ (operate L (read_reserved part.now)).reply) }
+    ensures { OfRoom room.now (λ L. answer_of carries_amount result ≡ (operate L (read_reserved part.now)).reply) }
 {
-    let Sought::Seat(seat) = seek(room, part) else {
-        return Reading::NameTooLong;
-    };
-    Reading::Amount(numbers::amount(seat.reserved))
+    let seat = seek(room, part)?;
+    Ok(numbers::amount(seat.reserved))
 }
 
 // The sum of what is committed, or that it is above M.
-fn sum_committed(room: &[u8]) -> Sum
+fn sum_committed(room: &[u8]) -> Option<u64>
     requires { SoundRoom room.now }
     ensures { OfRoom room.now (λ L. result ≡ summed (committed_total L.places)) }
 {
@@ -107,29 +81,29 @@ fn sum_committed(room: &[u8]) -> Sum
     let mut i = 0;
     while i < used {
         let place = records::load_place(room, i);
-        let Sum::Fits(more) = numbers::plus(total, place.committed) else {
-            return Sum::AboveM;
+        let Some(more) = numbers::plus(total, place.committed) else {
+            return None;
         };
         total = more;
         i += 1;
     }
-    Sum::Fits(total)
+    Some(total)
 }
 
 // "the committed total (15 above M)"
-pub fn committed_total(room: &[u8]) -> Total
+pub fn committed_total(room: &[u8]) -> Result<Microcents, Refusal>
     requires { SoundRoom room.now }
-    ensures { OfRoom room.now (λ L. total_reply result ≡ read_ledger L read_committed_total) }
+    ensures { OfRoom room.now (λ L. answer_of carries_amount result ≡ read_ledger L read_committed_total) }
 {
-    let Sum::Fits(total) = sum_committed(room) else {
-        return Total::AggregateOverflow;
+    let Some(total) = sum_committed(room) else {
+        return Err(Refusal::AggregateOverflow);
     };
-    Total::Amount(numbers::amount(total))
+    Ok(numbers::amount(total))
 }
 
 pub fn accounts(room: &[u8]) -> u64
     requires { SoundRoom room.now }
-    ensures { OfRoom room.now (λ L. count_reply result ≡ read_ledger L read_accounts) }
+    ensures { OfRoom room.now (λ L. done (carries_count result) ≡ read_ledger L read_accounts) }
 {
     let sizes = records::load_sizes(room);
     let used = sizes.used as usize;
@@ -147,7 +121,7 @@ pub fn accounts(room: &[u8]) -> u64
 
 pub fn live(room: &[u8]) -> u64
     requires { SoundRoom room.now }
-    ensures { OfRoom room.now (λ L. count_reply result ≡ read_ledger L read_live) }
+    ensures { OfRoom room.now (λ L. done (carries_count result) ≡ read_ledger L read_live) }
 {
     let sizes = records::load_sizes(room);
     sizes.live
@@ -155,7 +129,7 @@ pub fn live(room: &[u8]) -> u64
 
 pub fn last_version(room: &[u8]) -> u64
     requires { SoundRoom room.now }
-    ensures { OfRoom room.now (λ L. version_reply result ≡ read_ledger L read_last_version) }
+    ensures { OfRoom room.now (λ L. done (carries_version result) ≡ read_ledger L read_last_version) }
 {
     let head = records::load_head(room);
     head.last_version
@@ -164,10 +138,10 @@ pub fn last_version(room: &[u8]) -> u64
 // Document 01, Account rules, reads: by how much the committed total, cut off at M, exceeds the baseline.
 pub fn committed_since(room: &[u8]) -> Microcents
     requires { SoundRoom room.now }
-    ensures { OfRoom room.now (λ L. amount_reply result ≡ read_ledger L read_committed_since) }
+    ensures { OfRoom room.now (λ L. done (carries_amount result) ≡ read_ledger L read_committed_since) }
 {
     let head = records::load_head(room);
-    let Sum::Fits(total) = sum_committed(room) else {
+    let Some(total) = sum_committed(room) else {
         return numbers::amount(rules::M - head.baseline);
     };
     numbers::amount(total - head.baseline)

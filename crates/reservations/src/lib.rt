@@ -9,44 +9,32 @@ ghost use Rattle.room.specs.Contents.{contents_of, Sized, removed_booking};
 ghost use Rattle.room.specs.Room.{SoundRoom, Performs, OfRoom};
 ghost use Rattle.room.specs.Seats.{with_seat};
 ghost use Rattle.tables.specs.Steps.{Becomes};
-ghost use Rattle.reservations.specs.Answers.{reserved_reply, committed_reply, released_reply};
+ghost use Rattle.refusals.specs.Answers.{answer_of};
+ghost use Rattle.reservations.specs.Answers.{carries_grant, carries_commit, carries_release};
 ghost use Rattle.reservations.specs.Steps.{Booked, due_at};
 
-use moves::{Committing, Exposure, Releasing, Reserving, Seat, Tenant};
-use numbers::{Drawing, Held, Identifier, Microcents, Positive, Sign, Sum};
+use moves::Seat;
+use numbers::{Held, Identifier, Microcents};
 use records::{Booking, Head};
-use room::Found;
+use refusals::Refusal;
 
-// UnsoundLedger is given by the operations on any memory that stand above these.
+// What a reserve hands over when it is granted.
 #[derive(Clone, Copy)]
-pub enum Reserved {
-    Granted(Microcents, Identifier),
-    Insufficient(Microcents, Microcents),
-    MissingTenant,
-    Overflow(Microcents),
-    ExposureLimitExceeded(Microcents, Microcents),
-    NameTooLong,
-    ReservationsFull,
-    UnsoundLedger,
+pub struct Granted {
+    pub remaining: Microcents,
+    pub id: Identifier,
 }
 
 #[derive(Clone, Copy)]
-pub enum Committed {
-    Done(Microcents, Microcents),
-    InvalidAmount,
-    MissingReservation,
-    MissingTenant,
-    Overflow(Microcents),
-    Overrun(Microcents),
-    UnsoundLedger,
+pub struct Committed {
+    pub remaining: Microcents,
+    pub actual: Microcents,
 }
 
 #[derive(Clone, Copy)]
-pub enum Released {
-    Done(Microcents, Microcents),
-    MissingReservation,
-    MissingTenant,
-    UnsoundLedger,
+pub struct Released {
+    pub remaining: Microcents,
+    pub amount: Microcents,
 }
 
 // A live reservation that is to be settled: its amount, the number of its airline's place, and the seat there.
@@ -59,13 +47,13 @@ struct Due {
 
 // Document 01, Account rules, reserve, its last two answers: a full table refuses, and the id is not used up; else the booking has the id, and the head
 // after the draw is kept.
-fn book(room: &mut [u8], i: usize, seat: Seat, cost: Held, id: Identifier, head: Head) -> Reserved
+fn book(room: &mut [u8], i: usize, seat: Seat, cost: Held, id: Identifier, head: Head) -> Result<Granted, Refusal>
     requires { Sized room.old × (i < (contents_of room.old).sizes.used) × (seat.remaining ≤ M) }
     ensures { Booked i seat cost id head room.old result room.new }
 {
     let sizes = records::load_sizes(room);
     if sizes.live == sizes.reservations {
-        return Reserved::ReservationsFull;
+        return Err(Refusal::ReservationsFull);
     }
     seats::put_seat(room, i, seat);
     tables::append_booking(
@@ -77,45 +65,50 @@ fn book(room: &mut [u8], i: usize, seat: Seat, cost: Held, id: Identifier, head:
         },
     );
     tables::put_head(room, head);
-    Reserved::Granted(numbers::amount(seat.remaining), id)
+    Ok(Granted {
+        remaining: numbers::amount(seat.remaining),
+        id,
+    })
 }
 
-pub fn reserve(room: &mut [u8], part: &[u8], cost: Microcents) -> Reserved
+pub fn reserve(room: &mut [u8], part: &[u8], cost: Microcents) -> Result<Granted, Refusal>
     requires { SoundRoom room.old }
-    ensures { Performs (λ K. operate K (reserve part.now cost.0)) room.old (reserved_reply result) room.new }
+    ensures { Performs (λ K. operate K (reserve part.now cost.0)) room.old (answer_of carries_grant result) room.new }
 {
     if rules::LONGEST_NAME < part.len() {
-        return Reserved::NameTooLong;
+        return Err(Refusal::NameTooLong);
     }
     let found = lookup::find(room, part);
     let seat = seats::seat_at(room, found);
     let head = records::load_head(room);
     let drawn = heads::after_draw(head);
-    let drawing = drawn.drawing;
-    let Positive::Amount(asked) = numbers::positive_of(cost) else {
-        return Reserved::Insufficient(numbers::amount(0), cost);
+    let Some(asked) = numbers::positive_of(cost) else {
+        return Err(Refusal::Insufficient(numbers::amount(0), cost));
     };
-    let Tenant::Present = moves::tenant_of(seat) else {
-        return Reserved::MissingTenant;
+    if !moves::has_account(seat) {
+        return Err(Refusal::MissingTenant);
+    }
+    let Some(reserved) = numbers::plus(seat.reserved, asked) else {
+        return Err(Refusal::OverflowOfReserve(numbers::amount(seat.reserved)));
     };
-    let Sum::Fits(reserved) = numbers::plus(seat.reserved, asked) else {
-        return Reserved::Overflow(numbers::amount(seat.reserved));
-    };
-    let Exposure::Within = moves::exposure_of(seat.limit, reserved) else {
-        return Reserved::ExposureLimitExceeded(
+    if moves::exceeds(seat.limit, reserved) {
+        return Err(Refusal::ExposureLimitExceeded(
             numbers::amount(seat.reserved),
             numbers::amount(seat.limit),
-        );
+        ));
+    }
+    let Some(id) = drawn.id else {
+        return Err(Refusal::OverflowOfReserve(numbers::amount(seat.reserved)));
     };
-    let Drawing::Identifier(id) = drawing else {
-        return Reserved::Overflow(numbers::amount(seat.reserved));
+    let booked = match moves::reserve(seat, asked, reserved) {
+        Ok(booked) => booked,
+        Err(refusal) => {
+            tables::put_head(room, drawn.head);
+            return Err(refusal);
+        }
     };
-    let Reserving::Booked(booked) = moves::reserve(seat, asked, reserved) else {
-        tables::put_head(room, drawn.head);
-        return Reserved::Insufficient(numbers::amount(seat.remaining), numbers::amount(asked));
-    };
-    let Found::At(i) = found else {
-        return Reserved::MissingTenant;
+    let Some(i) = found else {
+        return Err(Refusal::MissingTenant);
     };
     book(room, i, booked, Held(asked), id, drawn.head)
 }
@@ -130,7 +123,7 @@ fn due_at(room: &[u8], j: usize) -> Due
     let booking = records::load_booking(room, base, j);
     let owner = booking.owner as usize;
     let amount = booking.amount;
-    let seat = seats::seat_at(room, Found::At(owner));
+    let seat = seats::seat_at(room, Some(owner));
     Due {
         amount,
         owner,
@@ -147,48 +140,47 @@ fn end(room: &mut [u8], j: usize, owner: usize, seat: Seat)
     tables::remove_booking(room, j);
 }
 
-pub fn commit(room: &mut [u8], id: Identifier, actual: Microcents) -> Committed
+pub fn commit(room: &mut [u8], id: Identifier, actual: Microcents) -> Result<Committed, Refusal>
     requires { SoundRoom room.old }
-    ensures { Performs (λ K. operate K (commit id.0 actual.0)) room.old (committed_reply result) room.new }
+    ensures { Performs (λ K. operate K (commit id.0 actual.0)) room.old (answer_of carries_commit result) room.new }
 {
-    let Sign::Natural(spent) = numbers::sign_of(actual) else {
-        return Committed::InvalidAmount;
+    let Some(spent) = numbers::natural_of(actual) else {
+        return Err(Refusal::InvalidAmount);
     };
-    let Found::At(j) = lookup::find_booking(room, id) else {
-        return Committed::MissingReservation;
+    let Some(j) = lookup::find_booking(room, id) else {
+        return Err(Refusal::MissingReservation);
     };
     let due = due_at(room, j);
     let seat = due.seat;
     let booked = due.amount;
-    let Tenant::Present = moves::tenant_of(seat) else {
-        return Committed::MissingTenant;
+    if !moves::has_account(seat) {
+        return Err(Refusal::MissingTenant);
+    }
+    let Some(committed) = numbers::plus(seat.committed, spent) else {
+        return Err(Refusal::OverflowOfCommit(numbers::amount(seat.remaining)));
     };
-    let Sum::Fits(committed) = numbers::plus(seat.committed, spent) else {
-        return Committed::Overflow(numbers::amount(seat.remaining));
-    };
-    let Committing::Ended(ended) = moves::commit(seat, booked, spent, committed) else {
-        return Committed::Overrun(numbers::amount(seat.remaining));
-    };
+    let ended = moves::commit(seat, booked, spent, committed)?;
     end(room, j, due.owner, ended);
-    Committed::Done(numbers::amount(ended.remaining), actual)
+    Ok(Committed {
+        remaining: numbers::amount(ended.remaining),
+        actual,
+    })
 }
 
-pub fn release(room: &mut [u8], id: Identifier) -> Released
+pub fn release(room: &mut [u8], id: Identifier) -> Result<Released, Refusal>
     requires { SoundRoom room.old }
-    ensures { Performs (λ K. operate K (release id.0)) room.old (released_reply result) room.new }
+    ensures { Performs (λ K. operate K (release id.0)) room.old (answer_of carries_release result) room.new }
 {
-    let Found::At(j) = lookup::find_booking(room, id) else {
-        return Released::MissingReservation;
+    let Some(j) = lookup::find_booking(room, id) else {
+        return Err(Refusal::MissingReservation);
     };
     let due = due_at(room, j);
     let seat = due.seat;
     let booked = due.amount;
-    let Releasing::Returned(returned) = moves::release(seat, booked) else {
-        return Released::MissingTenant;
-    };
+    let returned = moves::release(seat, booked)?;
     end(room, j, due.owner, returned);
-    Released::Done(
-        numbers::amount(returned.remaining),
-        numbers::amount(booked.0),
-    )
+    Ok(Released {
+        remaining: numbers::amount(returned.remaining),
+        amount: numbers::amount(booked.0),
+    })
 }

@@ -1,5 +1,5 @@
 -- The room as its sizes, its head, its T places and its R bookings, and what each step on the tables makes of them.
-use Rattle.std.specs.Prelude.{◌≡◌, cond, List, [], ◌∷◌, ◌++◌, map, leb, ltb, eqb, length, take, drop, set}
+use Rattle.std.specs.Prelude.{◌≡◌, cond, List, [], ◌∷◌, ◌++◌, map, leb, ltb, eqb, length, take, drop, set, Option, Some, None, option_map}
 use Prim.Native.Nat.{ℕ, suc, pred, ◌+◌, ◌*◌, ◌≤◌, Ordering, ◌<◌}
 use Rattle.rules.specs.RoomAndSoundLedger.{Name, order, same, most_names, most_reservations}
 use Rattle.rules.specs.Lists.{All, Pairwise}
@@ -10,8 +10,6 @@ use Rattle.records.specs.declared.Place.{Place}
 use Rattle.records.specs.declared.Booking.{Booking}
 use Rattle.records.specs.declared.Head.{Head}
 use Rattle.records.specs.declared.Sizes.{Sizes}
-use Rattle.room.specs.declared.Found.{Found}
-use Rattle.room.specs.declared.Found.TheVariants.{At, Absent}
 
 pub record Contents : Type 0 where
   pub sizes : Sizes
@@ -59,14 +57,10 @@ pub record Searchable (xs : List ℕ) : Type 0 where
   pub names_ascend : Pairwise NameBefore (used_places (contents_of xs))
   pub ids_ascend : Pairwise (λ b c. b.id.0 < c.id.0) (live_bookings (contents_of xs))
 
-abbrev pub later : Found → Found
-later (At i) = At (suc i)
-later Absent = Absent
-
 -- the place of a name, or that it is absent
-unfoldable pub place_of_name : Name → List Place → Found
-place_of_name a [] = Absent
-place_of_name a (p ∷ ps) = cond (same a (spelled p.name)) (At 0) (later (place_of_name a ps))
+unfoldable pub place_of_name : Name → List Place → Option ℕ
+place_of_name a [] = None
+place_of_name a (p ∷ ps) = cond (same a (spelled p.name)) (Some 0) (option_map suc (place_of_name a ps))
 
 abbrev pub goes_behind : Ordering → ℕ → ℕ
 goes_behind Ordering.lt n = suc n
@@ -78,9 +72,9 @@ unfoldable pub place_for_name : Name → List Place → ℕ
 place_for_name a [] = 0
 place_for_name a (p ∷ ps) = goes_behind (order (spelled p.name) a) (place_for_name a ps)
 
-unfoldable pub booking_of_id : ℕ → List Booking → Found
-booking_of_id i [] = Absent
-booking_of_id i (b ∷ bs) = cond (eqb i b.id.0) (At 0) (later (booking_of_id i bs))
+unfoldable pub booking_of_id : ℕ → List Booking → Option ℕ
+booking_of_id i [] = None
+booking_of_id i (b ∷ bs) = cond (eqb i b.id.0) (Some 0) (option_map suc (booking_of_id i bs))
 
 -- ── what the steps make of the tables ──────────────────────────────────────────────────────────
 

@@ -1,23 +1,20 @@
 -- The seat that a look-up found, and the tables with a seat changed.
-use Rattle.std.specs.Prelude.{List, ℕ, ◌<◌, length, get_or}
+use Rattle.std.specs.Prelude.{List, ℕ, ◌<◌, length, get_or, Option, Some, None, IfSome}
 use Rattle.moves.specs.declared.Seat.{Seat}
 use Rattle.records.specs.declared.Place.{Place}
 use Rattle.room.specs.Contents.{Contents, empty_place, with_place}
-use Rattle.room.specs.declared.Found.{Found}
-use Rattle.room.specs.declared.Found.TheVariants.{At, Absent}
 
 -- a look-up's answer about these places
-abbrev pub FoundIn : Found → List Place → Type 0
-FoundIn (At i) ps = i < length ps
-FoundIn Absent ps = Unit {0}
+abbrev pub FoundIn : Option ℕ → List Place → Type 0
+FoundIn found ps = IfSome found (λ i. i < length ps)
 
 abbrev pub seat_of_place : Place → Seat
 seat_of_place p = record { initial = p.initial; remaining = p.remaining; reserved = p.reserved; committed = p.committed; limit = p.limit; account = p.account }
 
 -- a name that holds no place has nothing
-abbrev pub seat_found : Found → List Place → Seat
-seat_found (At i) ps = seat_of_place (get_or ps i empty_place)
-seat_found Absent ps = seat_of_place empty_place
+abbrev pub seat_found : Option ℕ → List Place → Seat
+seat_found (Some i) ps = seat_of_place (get_or ps i empty_place)
+seat_found None ps = seat_of_place empty_place
 
 -- the place with another seat
 abbrev pub reseated : Seat → Place → Place

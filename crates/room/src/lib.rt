@@ -2,10 +2,3 @@
 // when bytes are the room of a sound ledger, and specs/LedgerBytes.antt the bytes of a ledger written out, which are its room.
 
 #![tactic(auto)]
-
-// What a look-up answers.
-#[derive(Clone, Copy)]
-pub enum Found {
-    At(usize),
-    Absent,
-}

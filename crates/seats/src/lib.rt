@@ -15,21 +15,14 @@ ghost use Rattle.seats.specs.Writing.{WritesSeat};
 
 use moves::Seat;
 use records::Place;
-use room::Found;
-
-// What a write comes to: the ledger has room for the name, or it has not.
-#[derive(Clone, Copy)]
-pub enum Written {
-    Done,
-    NamesFull,
-}
+use refusals::Refusal;
 
 // A name that holds no place has nothing.
-pub fn seat_at(room: &[u8], found: Found) -> Seat
+pub fn seat_at(room: &[u8], found: Option<usize>) -> Seat
     requires { Sized room.now × FoundIn found (used_places (contents_of room.now)) }
     ensures { result ≡ seat_found found (used_places (contents_of room.now)) }
 {
-    let Found::At(i) = found else {
+    let Some(i) = found else {
         return Seat {
             initial: 0,
             remaining: 0,
@@ -77,14 +70,14 @@ fn is_vacant(seat: Seat) -> bool
 }
 
 // Document 01, Account rules, ensure: a new name is refused with 20 where every place is taken.
-fn open_place(room: &mut [u8], part: &[u8], seat: Seat) -> Written
+fn open_place(room: &mut [u8], part: &[u8], seat: Seat) -> Result<(), Refusal>
     requires { SoundRoom room.old × (length part.now ≤ longest_name) × SeatSound seat × (is_vacant (meaning seat) ≡ false)
         × (OfRoom room.old (λ L. holds_place part.now L.places ≡ false)) }
     ensures { OfRoom room.old (λ L. WritesSeat part.now seat L room.old room.new result) }
 {
     let sizes = records::load_sizes(room);
     if sizes.used == sizes.names {
-        return Written::NamesFull;
+        return Err(Refusal::NamesFull);
     }
     let at = lookup::place_for(room, part);
     let name = names::name_of(part);
@@ -98,26 +91,26 @@ fn open_place(room: &mut [u8], part: &[u8], seat: Seat) -> Written
         name,
     };
     tables::insert_place(room, at, place);
-    Written::Done
+    Ok(())
 }
 
 // A vacant seat frees the name's place; another is written where the name stands, or put in.
-pub fn write_seat(room: &mut [u8], part: &[u8], found: Found, seat: Seat) -> Written
+pub fn write_seat(room: &mut [u8], part: &[u8], found: Option<usize>, seat: Seat) -> Result<(), Refusal>
     requires { SoundRoom room.old × (length part.now ≤ longest_name) × SeatSound seat
         × (found ≡ place_of_name part.now (used_places (contents_of room.old)))
         × (OfRoom room.old (λ L. is_vacant (meaning seat) ≡ true → (seat_in part.now L.places).account ≡ none)) }
     ensures { OfRoom room.old (λ L. WritesSeat part.now seat L room.old room.new result) }
 {
-    let Found::At(i) = found else {
+    let Some(i) = found else {
         if is_vacant(seat) {
-            return Written::Done;
+            return Ok(());
         }
         return open_place(room, part, seat);
     };
     if is_vacant(seat) {
         tables::free_place(room, i);
-        return Written::Done;
+        return Ok(());
     }
     put_seat(room, i, seat);
-    Written::Done
+    Ok(())
 }

@@ -1,5 +1,5 @@
 -- What the check asks of a room, record by record. That these are just the rooms of sound ledgers is a theorem (proofs/Sound.antt).
-use Rattle.std.specs.Prelude.{◌≡◌, ◌⊎◌, ◌≢◌, Bool, true, false, cond, List, ℕ, ◌-◌, ◌≤◌, ◌<◌, eqb, length, get_or, drop, replicate}
+use Rattle.std.specs.Prelude.{◌≡◌, ◌⊎◌, ◌≢◌, Bool, true, false, cond, List, ℕ, ◌-◌, ◌≤◌, ◌<◌, eqb, length, get_or, drop, replicate, Result, MatchResult}
 use Rattle.rules.specs.Lists.{sum, All, Pairwise}
 use Rattle.rules.specs.RoomAndSoundLedger.{M, is_vacant, InRange, has_tag, fence_of, most_names, most_reservations}
 use Rattle.names.specs.Names.{IsStored}
@@ -12,6 +12,9 @@ use Rattle.records.specs.declared.Head.{Head}
 use Rattle.records.specs.declared.Sizes.{Sizes}
 use Rattle.room.specs.Contents.{Contents, contents_of, room_size, used_places, live_bookings, empty_place, empty_booking, NameBefore}
 use Rattle.room.specs.Seats.{seat_of_place}
+use Rattle.room.specs.Room.{SoundRoom}
+use Rattle.refusals.specs.declared.Refusal.{Refusal}
+use Rattle.refusals.specs.declared.Refusal.TheVariants.{UnsoundLedger}
 
 -- an answer of a check that says exactly whether something holds
 pub record Decides (P : Type 0) (r : Bool) : Type 0 where
@@ -72,3 +75,7 @@ pub record RoomFacts (xs : List ℕ) : Type 0 where
   pub sizes : SizesSound (sizes_of xs) (length xs)
   pub head : HeadSound (head_of xs)
   pub tables : TablesSound (contents_of xs)
+
+-- memory that is no sound ledger's room is refused with 24, and no other
+abbrev pub ExpectsSound : List ℕ → Result (Unit {0}) Refusal → Type 0
+ExpectsSound xs r = MatchResult r (λ _. SoundRoom xs) (λ e. (e ≡ UnsoundLedger) × (SoundRoom xs → ⊥))

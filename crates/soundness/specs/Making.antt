@@ -6,8 +6,6 @@ use Rattle.rules.specs.RoomAndSoundLedger.{Ledger}
 use Rattle.rules.specs.AnswerNumbers.{Reply, UnsoundLedger, done, reply_of}
 use Rattle.room.specs.Room.{IsRoom}
 use Rattle.room.specs.LedgerBytes.{ledger_bytes}
-use Rattle.soundness.specs.declared.Made.{Made}
-use Rattle.soundness.specs.declared.Made.TheVariants as made
 
 -- the ledger, where the memory has just the bytes that it takes
 abbrev pub made_in : (memory : List ℕ) → Option Ledger → Option Ledger
@@ -18,7 +16,3 @@ made_in memory (some L) = cond (eqb (length memory) (length (ledger_bytes L))) (
 abbrev pub Makes : Option Ledger → (before : List ℕ) → Reply → (after : List ℕ) → Type 0
 Makes none before r after = (r ≡ reply_of UnsoundLedger) × (after ≡ before)
 Makes (some L) before r after = (r ≡ done []) × IsRoom after L
-
-abbrev pub made_reply : Made → Reply
-made_reply made.Done = done []
-made_reply made.UnsoundLedger = reply_of UnsoundLedger

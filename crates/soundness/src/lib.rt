@@ -13,11 +13,13 @@ ghost use Rattle.records.specs.Records.{sizes_of, head_of, places, bookings};
 ghost use Rattle.room.specs.Contents.{contents_of};
 ghost use Rattle.room.specs.Room.{SoundRoom};
 ghost use Rattle.room.specs.Seats.{seat_of_place};
-ghost use Rattle.soundness.specs.Facts.{Decides, SizesSound, VersionSound, HeadSound, PlacesSound, TablesSound, RoomFacts};
+ghost use Rattle.soundness.specs.Facts.{Decides, SizesSound, VersionSound, HeadSound, PlacesSound, TablesSound, RoomFacts, ExpectsSound};
 ghost use Rattle.soundness.specs.Steps.{Leaves, ZeroBelow, place_at, NameFollows, Noted, Follows, Booked};
-ghost use Rattle.soundness.specs.Making.{made_in, Makes, made_reply};
+ghost use Rattle.soundness.specs.Making.{made_in, Makes};
+ghost use Rattle.refusals.specs.Answers.{answer_of, carries_nothing};
 
 use records::{Booking, Head, Place, Sizes};
+use refusals::Refusal;
 
 // The numbers of `rules`, of the type that the fields of a room have.
 const MOST_NAMES: u64 = rules::MOST_NAMES as u64;
@@ -350,10 +352,14 @@ pub fn is_sound(room: &[u8]) -> bool
     check(room)
 }
 
-#[derive(Clone, Copy)]
-pub enum Made {
-    Done,
-    UnsoundLedger,
+// 24 for every operation: memory that is no such room is refused.
+pub fn expect_sound(room: &[u8]) -> Result<(), Refusal>
+    ensures { ExpectsSound room.now result }
+{
+    if !is_sound(room) {
+        return Err(Refusal::UnsoundLedger);
+    }
+    Ok(())
 }
 
 // What stood there is overwritten whole: "room not in use is zero".
@@ -368,8 +374,8 @@ fn clear(room: &mut [u8])
 }
 
 // A fresh ledger (document 01, Room and the sound ledger): over zeros only the sizes and the next id are left to write.
-pub fn make(room: &mut [u8], names: u64, reservations: u64) -> Made
-    ensures { Makes (made_in room.old (made names reservations)) room.old (made_reply result) room.new }
+pub fn make(room: &mut [u8], names: u64, reservations: u64) -> Result<(), Refusal>
+    ensures { Makes (made_in room.old (made names reservations)) room.old (answer_of carries_nothing result) room.new }
 {
     let sizes = Sizes {
         names,
@@ -378,7 +384,7 @@ pub fn make(room: &mut [u8], names: u64, reservations: u64) -> Made
         live: 0,
     };
     if !sizes_sound(sizes, room.len()) {
-        return Made::UnsoundLedger;
+        return Err(Refusal::UnsoundLedger);
     }
     clear(room);
     records::store_sizes(room, sizes);
@@ -388,5 +394,5 @@ pub fn make(room: &mut [u8], names: u64, reservations: u64) -> Made
         baseline: 0,
     };
     records::store_head(room, head);
-    Made::Done
+    Ok(())
 }

@@ -1,10 +1,9 @@
 -- A total of two words: the integer that they are, and whether 64 bits hold it.
-use Rattle.std.specs.Prelude.{cond, ℕ, ◌^◌, ◌≤◌, ℤ, pos, ◌+ℤ◌, ◌*ℤ◌}
+use Rattle.std.specs.Prelude.{cond, ℕ, ◌^◌, ◌≤◌, ℤ, pos, ◌+ℤ◌, ◌*ℤ◌, Option, Some, None}
 use Rattle.std.specs.Int.Signed.{mag}
 use Rattle.rules.specs.SnapshotsMigrationCertificates.{fits64}
 use Rattle.totals.specs.declared.Total.{Total}
-use Rattle.totals.specs.declared.Fitted.{Fitted}
-use Rattle.totals.specs.declared.Fitted.TheVariants.{Fits, Outside}
+use Rattle.numbers.specs.declared.Microcents.{Microcents}
 
 abbrev pub value_of : Total → ℤ
 value_of t = t.high *ℤ pos (2 ^ 64) +ℤ pos t.low
@@ -14,5 +13,5 @@ abbrev pub Moved : ℕ → Total → Type 0
 Moved n t = mag t.high ≤ n
 
 -- the amount that an integer is, or that it is none
-abbrev pub fitted : ℤ → Fitted
-fitted z = cond (fits64 z) (Fits (record { 0 = z })) Outside
+abbrev pub fitted : ℤ → Option Microcents
+fitted z = cond (fits64 z) (Some (record { 0 = z })) None

@@ -22,13 +22,6 @@ pub struct Total {
     pub low: u64,
 }
 
-// A total as an amount of 64 bits, where it is one.
-#[derive(Clone, Copy)]
-pub enum Fitted {
-    Fits(Microcents),
-    Outside,
-}
-
 pub fn nothing() -> Total
     ensures value { value_of result ≡ pos 0 }
     ensures moved { Moved 0 result }
@@ -86,22 +79,22 @@ pub fn minus(total: Total, amount: Microcents) -> Total
 }
 
 // A total is an amount where its high word only repeats the sign of its low word.
-pub fn fit(total: Total) -> Fitted
+pub fn fit(total: Total) -> Option<Microcents>
     ensures { result ≡ fitted (value_of total) }
 {
     let high = total.high;
     let low = total.low;
     if high == 0 {
         if low < HALF {
-            return Fitted::Fits(Microcents(low as i64));
+            return Some(Microcents(low as i64));
         }
-        return Fitted::Outside;
+        return None;
     }
     if high == -1 {
         if low < HALF {
-            return Fitted::Outside;
+            return None;
         }
-        return Fitted::Fits(big_endian::signed(low));
+        return Some(big_endian::signed(low));
     }
-    Fitted::Outside
+    None
 }
