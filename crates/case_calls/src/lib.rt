@@ -4,19 +4,10 @@
 #![tactic(auto)]
 
 use answer_bytes::LONGEST_OTHER_ANSWER;
-use any_memory_accounts::{Counted, Since};
 use case_text::text;
 use case_text::text::Numbers;
 use numbers::{Identifier, Microcents};
-use reads::{Reading, Total};
-use soundness::Made;
-
-fn write_made(answer: &mut [u8; LONGEST_OTHER_ANSWER], made: Made) -> usize {
-    match made {
-        Made::Done => answer_bytes::write_number(answer, 0),
-        Made::UnsoundLedger => answer_bytes::write_number(answer, 24),
-    }
-}
+use refusals::Refusal;
 
 fn on_account(
     operation: &[u8],
@@ -27,19 +18,19 @@ fn on_account(
 ) -> usize {
     let place = text::place(operation, b"ensure top-up limit reserve");
     match place {
-        0 => account_answers::write_ensured(
+        0 => answers::write_answer(
             answer,
             any_memory_accounts::ensure(memory, name, amount),
         ),
-        1 => account_answers::write_topped_up(
+        1 => answers::write_answer(
             answer,
             any_memory_accounts::top_up(memory, name, amount),
         ),
-        2 => account_answers::write_limited(
+        2 => answers::write_answer(
             answer,
             any_memory_accounts::limit(memory, name, amount),
         ),
-        3 => account_answers::write_reserved(
+        3 => answers::write_answer(
             answer,
             any_memory_accounts::reserve(memory, name, amount),
         ),
@@ -57,15 +48,15 @@ pub fn change(
     let amount = big_endian::signed(numbers.amount);
     let place = text::place(operation, b"make commit release");
     match place {
-        0 => write_made(
+        0 => answers::write_answer(
             answer,
             soundness::make(memory, numbers.first, numbers.second),
         ),
-        1 => account_answers::write_committed(
+        1 => answers::write_answer(
             answer,
             any_memory_accounts::commit(memory, Identifier(numbers.first), amount),
         ),
-        2 => account_answers::write_released(
+        2 => answers::write_answer(
             answer,
             any_memory_accounts::release(memory, Identifier(numbers.second)),
         ),
@@ -73,35 +64,19 @@ pub fn change(
     }
 }
 
-fn write_reading(answer: &mut [u8; LONGEST_OTHER_ANSWER], reading: Reading) -> usize {
-    match reading {
-        Reading::Amount(amount) => answer_bytes::write_word(answer, 0, big_endian::word_of(amount)),
-        Reading::MissingTenant => answer_bytes::write_number(answer, 3),
-        Reading::NameTooLong => answer_bytes::write_number(answer, 19),
-        Reading::UnsoundLedger => answer_bytes::write_number(answer, 24),
+// A read tells one word: an amount, or a count.
+fn write_read(answer: &mut [u8; LONGEST_OTHER_ANSWER], read: Result<u64, Refusal>) -> usize {
+    match read {
+        Ok(word) => answer_bytes::write_word(answer, 0, word),
+        Err(refusal) => answers::write_refusal(answer, refusal),
     }
 }
 
-fn write_total(answer: &mut [u8; LONGEST_OTHER_ANSWER], total: Total) -> usize {
-    match total {
-        Total::Amount(amount) => answer_bytes::write_word(answer, 0, big_endian::word_of(amount)),
-        Total::AggregateOverflow => answer_bytes::write_number(answer, 15),
-        Total::UnsoundLedger => answer_bytes::write_number(answer, 24),
-    }
-}
-
-fn write_counted(answer: &mut [u8; LONGEST_OTHER_ANSWER], counted: Counted) -> usize {
-    match counted {
-        Counted::Count(count) => answer_bytes::write_word(answer, 0, count),
-        Counted::UnsoundLedger => answer_bytes::write_number(answer, 24),
-    }
-}
-
-fn write_since(answer: &mut [u8; LONGEST_OTHER_ANSWER], since: Since) -> usize {
-    match since {
-        Since::Amount(amount) => answer_bytes::write_word(answer, 0, big_endian::word_of(amount)),
-        Since::UnsoundLedger => answer_bytes::write_number(answer, 24),
-    }
+fn write_amount(
+    answer: &mut [u8; LONGEST_OTHER_ANSWER],
+    read: Result<Microcents, Refusal>,
+) -> usize {
+    write_read(answer, read.map(big_endian::word_of))
 }
 
 pub fn read(
@@ -115,14 +90,14 @@ pub fn read(
         b"remaining initial committed reserved committed-total accounts live committed-since",
     );
     match place {
-        0 => write_reading(answer, any_memory_accounts::remaining(memory, name)),
-        1 => write_reading(answer, any_memory_accounts::initial(memory, name)),
-        2 => write_reading(answer, any_memory_accounts::committed(memory, name)),
-        3 => write_reading(answer, any_memory_accounts::reserved(memory, name)),
-        4 => write_total(answer, any_memory_accounts::committed_total(memory)),
-        5 => write_counted(answer, any_memory_accounts::accounts(memory)),
-        6 => write_counted(answer, any_memory_accounts::live(memory)),
-        7 => write_since(answer, any_memory_accounts::committed_since(memory)),
+        0 => write_amount(answer, any_memory_accounts::remaining(memory, name)),
+        1 => write_amount(answer, any_memory_accounts::initial(memory, name)),
+        2 => write_amount(answer, any_memory_accounts::committed(memory, name)),
+        3 => write_amount(answer, any_memory_accounts::reserved(memory, name)),
+        4 => write_amount(answer, any_memory_accounts::committed_total(memory)),
+        5 => write_read(answer, any_memory_accounts::accounts(memory)),
+        6 => write_read(answer, any_memory_accounts::live(memory)),
+        7 => write_amount(answer, any_memory_accounts::committed_since(memory)),
         _ => 0,
     }
 }
@@ -136,12 +111,12 @@ fn certify(
 ) -> usize {
     let place = text::place(operation, b"certificate certificate-of proof");
     match place {
-        0 => snapshot_answers::write_certified(answer, any_memory_snapshots::certificate(memory)),
-        1 => snapshot_answers::write_certified(
+        0 => answers::write_answer(answer, any_memory_snapshots::certificate(memory)),
+        1 => answers::write_answer(
             answer,
             any_memory_snapshots::certificate_of_snapshot(supplied, since),
         ),
-        2 => snapshot_answers::write_proved(
+        2 => answers::write_answer(
             answer,
             any_memory_snapshots::conservation_proof(memory),
         ),
@@ -160,19 +135,19 @@ pub fn judge(
 ) -> usize {
     let place = text::place(operation, b"restore recovery-restore migrate status");
     match place {
-        0 => snapshot_answers::write_judged(
+        0 => answers::write_answer(
             answer,
             any_memory_snapshots::restore(memory, supplied),
         ),
-        1 => snapshot_answers::write_judged(
+        1 => answers::write_answer(
             answer,
             any_memory_snapshots::recovery_restore(memory, supplied),
         ),
-        2 => snapshot_answers::write_judged(
+        2 => answers::write_answer(
             answer,
-            any_memory_snapshots::migrate(supplied, numbers.second, output),
+            any_memory_snapshots::migrate(supplied, numbers.second, output).map(|_| ()),
         ),
-        3 => snapshot_answers::write_judged(answer, any_memory_snapshots::status(supplied)),
+        3 => answers::write_answer(answer, any_memory_snapshots::status(supplied)),
         _ => certify(
             operation,
             big_endian::signed(numbers.amount),

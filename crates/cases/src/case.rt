@@ -4,11 +4,9 @@ ghost use Rattle.std.specs.Prelude.{◌≡◌, ◌<◌, min};
 use crate::lent;
 use crate::lent::Lent;
 use answer_bytes::LONGEST_OTHER_ANSWER;
-use any_memory_accounts::Versioned;
 use case_text::text::Numbers;
 use case_text::{shown, text};
 use lines::Progress;
-use snapshot_writer::Snapshotted;
 
 fn least(a: usize, b: usize) -> usize
     ensures { result ≡ min a b }
@@ -77,10 +75,8 @@ fn snapshot_refused(rt: &HostRuntime, number: u8) {
 fn snapshot(rt: &HostRuntime, line: &[u8], memory: &mut [u8], output: &mut [u8]) -> bool {
     shown::echo(rt, line);
     match any_memory_snapshots::snapshot(memory, output) {
-        Snapshotted::Written(size) => snapshot_size(rt, size),
-        Snapshotted::AllocatorExhausted => snapshot_refused(rt, 9),
-        Snapshotted::OutputTooShort => snapshot_refused(rt, 22),
-        Snapshotted::UnsoundLedger => snapshot_refused(rt, 24),
+        Ok(size) => snapshot_size(rt, size),
+        Err(refusal) => snapshot_refused(rt, refusal.number()),
     }
     true
 }
@@ -95,8 +91,8 @@ fn version(rt: &HostRuntime, number: u64) {
 fn last_version(rt: &HostRuntime, line: &[u8], memory: &[u8]) -> bool {
     shown::echo(rt, line);
     match any_memory_accounts::last_version(memory) {
-        Versioned::Version(number) => version(rt, number),
-        Versioned::UnsoundLedger => shown::text(rt, b"24\n"),
+        Ok(number) => version(rt, number),
+        Err(_) => shown::text(rt, b"24\n"),
     }
     true
 }
