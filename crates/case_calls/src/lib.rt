@@ -1,10 +1,9 @@
-// The calls whose answers are bytes. Each function answers some operations, in the order of its list: it writes the answer to the front of the room for
-// it and says how many bytes it takes, or 0 where the operation is not in the list.
+// The calls whose answers are bytes. Each function answers some operations: it writes the answer to the front of the room for it and says how many bytes it
+// takes, or none where the operation is another, or one of its numbers is missing.
 
 #![tactic(auto)]
 
 use answer_bytes::LONGEST_OTHER_ANSWER;
-use case_text::text;
 use case_text::text::Numbers;
 use numbers::{Identifier, Microcents};
 use refusals::Refusal;
@@ -15,27 +14,23 @@ fn on_account(
     amount: Microcents,
     memory: &mut [u8],
     answer: &mut [u8; LONGEST_OTHER_ANSWER],
-) -> usize {
-    let place = text::place(operation, b"ensure top-up limit reserve");
-    match place {
-        0 => answers::write_answer(
-            answer,
-            any_memory_accounts::ensure(memory, name, amount),
-        ),
-        1 => answers::write_answer(
-            answer,
-            any_memory_accounts::top_up(memory, name, amount),
-        ),
-        2 => answers::write_answer(
-            answer,
-            any_memory_accounts::limit(memory, name, amount),
-        ),
-        3 => answers::write_answer(
-            answer,
-            any_memory_accounts::reserve(memory, name, amount),
-        ),
-        _ => 0,
-    }
+) -> Option<usize> {
+    let size = match operation {
+        b"ensure" => {
+            answers::write_answer(answer, any_memory_accounts::ensure(memory, name, amount))
+        }
+        b"top-up" => {
+            answers::write_answer(answer, any_memory_accounts::top_up(memory, name, amount))
+        }
+        b"limit" => {
+            answers::write_answer(answer, any_memory_accounts::limit(memory, name, amount))
+        }
+        b"reserve" => {
+            answers::write_answer(answer, any_memory_accounts::reserve(memory, name, amount))
+        }
+        _ => return None,
+    };
+    Some(size)
 }
 
 pub fn change(
@@ -44,24 +39,27 @@ pub fn change(
     numbers: Numbers,
     memory: &mut [u8],
     answer: &mut [u8; LONGEST_OTHER_ANSWER],
-) -> usize {
-    let amount = big_endian::signed(numbers.amount);
-    let place = text::place(operation, b"make commit release");
-    match place {
-        0 => answers::write_answer(
-            answer,
-            soundness::make(memory, numbers.first, numbers.second),
-        ),
-        1 => answers::write_answer(
-            answer,
-            any_memory_accounts::commit(memory, Identifier(numbers.first), amount),
-        ),
-        2 => answers::write_answer(
-            answer,
-            any_memory_accounts::release(memory, Identifier(numbers.second)),
-        ),
-        _ => on_account(operation, name, amount, memory, answer),
-    }
+) -> Option<usize> {
+    let size = match operation {
+        b"make" => {
+            let made = soundness::make(memory, numbers.first?, numbers.second?);
+            answers::write_answer(answer, made)
+        }
+        b"commit" => {
+            let id = Identifier(numbers.first?);
+            let actual = big_endian::signed(numbers.amount?);
+            answers::write_answer(answer, any_memory_accounts::commit(memory, id, actual))
+        }
+        b"release" => {
+            let id = Identifier(numbers.second?);
+            answers::write_answer(answer, any_memory_accounts::release(memory, id))
+        }
+        _ => {
+            let amount = big_endian::signed(numbers.amount?);
+            return on_account(operation, name, amount, memory, answer);
+        }
+    };
+    Some(size)
 }
 
 // A read tells one word: an amount, or a count.
@@ -84,44 +82,47 @@ pub fn read(
     name: &[u8],
     memory: &[u8],
     answer: &mut [u8; LONGEST_OTHER_ANSWER],
-) -> usize {
-    let place = text::place(
-        operation,
-        b"remaining initial committed reserved committed-total accounts live committed-since",
-    );
-    match place {
-        0 => write_amount(answer, any_memory_accounts::remaining(memory, name)),
-        1 => write_amount(answer, any_memory_accounts::initial(memory, name)),
-        2 => write_amount(answer, any_memory_accounts::committed(memory, name)),
-        3 => write_amount(answer, any_memory_accounts::reserved(memory, name)),
-        4 => write_amount(answer, any_memory_accounts::committed_total(memory)),
-        5 => write_read(answer, any_memory_accounts::accounts(memory)),
-        6 => write_read(answer, any_memory_accounts::live(memory)),
-        7 => write_amount(answer, any_memory_accounts::committed_since(memory)),
-        _ => 0,
-    }
+) -> Option<usize> {
+    let size = match operation {
+        b"remaining" => write_amount(answer, any_memory_accounts::remaining(memory, name)),
+        b"initial" => write_amount(answer, any_memory_accounts::initial(memory, name)),
+        b"committed" => write_amount(answer, any_memory_accounts::committed(memory, name)),
+        b"reserved" => write_amount(answer, any_memory_accounts::reserved(memory, name)),
+        b"committed-total" => {
+            write_amount(answer, any_memory_accounts::committed_total(memory))
+        }
+        b"accounts" => write_read(answer, any_memory_accounts::accounts(memory)),
+        b"live" => write_read(answer, any_memory_accounts::live(memory)),
+        b"committed-since" => {
+            write_amount(answer, any_memory_accounts::committed_since(memory))
+        }
+        _ => return None,
+    };
+    Some(size)
 }
 
 fn certify(
     operation: &[u8],
-    since: Microcents,
+    since: Option<u64>,
     memory: &mut [u8],
     supplied: &[u8],
     answer: &mut [u8; LONGEST_OTHER_ANSWER],
-) -> usize {
-    let place = text::place(operation, b"certificate certificate-of proof");
-    match place {
-        0 => answers::write_answer(answer, any_memory_snapshots::certificate(memory)),
-        1 => answers::write_answer(
-            answer,
-            any_memory_snapshots::certificate_of_snapshot(supplied, since),
-        ),
-        2 => answers::write_answer(
-            answer,
-            any_memory_snapshots::conservation_proof(memory),
-        ),
-        _ => 0,
-    }
+) -> Option<usize> {
+    let size = match operation {
+        b"certificate" => {
+            answers::write_answer(answer, any_memory_snapshots::certificate(memory))
+        }
+        b"certificate-of" => {
+            let since = big_endian::signed(since?);
+            let certificate = any_memory_snapshots::certificate_of_snapshot(supplied, since);
+            answers::write_answer(answer, certificate)
+        }
+        b"proof" => {
+            answers::write_answer(answer, any_memory_snapshots::conservation_proof(memory))
+        }
+        _ => return None,
+    };
+    Some(size)
 }
 
 // A migration that is done shows its number alone: the migrated snapshot stands in the output.
@@ -132,28 +133,16 @@ pub fn judge(
     supplied: &[u8],
     output: &mut [u8],
     answer: &mut [u8; LONGEST_OTHER_ANSWER],
-) -> usize {
-    let place = text::place(operation, b"restore recovery-restore migrate status");
-    match place {
-        0 => answers::write_answer(
-            answer,
-            any_memory_snapshots::restore(memory, supplied),
-        ),
-        1 => answers::write_answer(
-            answer,
-            any_memory_snapshots::recovery_restore(memory, supplied),
-        ),
-        2 => answers::write_answer(
-            answer,
-            any_memory_snapshots::migrate(supplied, numbers.second, output).map(|_| ()),
-        ),
-        3 => answers::write_answer(answer, any_memory_snapshots::status(supplied)),
-        _ => certify(
-            operation,
-            big_endian::signed(numbers.amount),
-            memory,
-            supplied,
-            answer,
-        ),
-    }
+) -> Option<usize> {
+    let done = match operation {
+        b"restore" => any_memory_snapshots::restore(memory, supplied),
+        b"recovery-restore" => any_memory_snapshots::recovery_restore(memory, supplied),
+        b"migrate" => {
+            let fence = numbers.second?;
+            any_memory_snapshots::migrate(supplied, fence, output).map(|_| ())
+        }
+        b"status" => any_memory_snapshots::status(supplied),
+        _ => return certify(operation, numbers.amount, memory, supplied, answer),
+    };
+    Some(answers::write_answer(answer, done))
 }
