@@ -101,7 +101,7 @@ fn places_sound(room: &[u8], used: usize, baseline: u64, reserved: &mut [u64]) -
     let mut left = baseline;
     for i in 0..used {
         let place = records::load_place(room, i);
-        if !(amounts_sound(place) && name_sound(room, i) && ascends(room, i)) {
+        if !amounts_sound(place) || !name_sound(room, i) || !ascends(room, i) {
             return false;
         }
         left = left.saturating_sub(place.committed);
