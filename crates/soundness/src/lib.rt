@@ -4,7 +4,7 @@
 #![tactic(auto)]
 
 ghost use Rattle.std.specs.Prelude.{◌≡◌, true, false, ◌+◌, ◌-◌, ◌*◌, ◌^◌, ◌≤◌, ◌<◌, length, replicate};
-ghost use Rattle.rules.specs.RoomAndSoundLedger.{M, InRange, is_vacant, made};
+ghost use Rattle.rules.specs.RoomAndSoundLedger.{M, is_vacant, made};
 ghost use Rattle.names.specs.Names.{IsStored};
 ghost use Rattle.moves.specs.Moves.{meaning, SeatSound};
 ghost use Rattle.records.specs.Layout.{place_start, place_size, booking_size};
@@ -28,18 +28,12 @@ const MOST_RESERVATIONS: u64 = rules::MOST_RESERVATIONS as u64;
 
 const LONGEST_NAME: u64 = rules::LONGEST_NAME as u64;
 
-fn in_range(value: u64, low: u64, high: u64) -> bool
-    ensures { Decides (InRange low high value) result }
-{
-    (low..=high).contains(&value)
-}
-
 // "T and R are in range", no more is in use than there is room for, and the memory is of just that size.
 fn sizes_sound(sizes: Sizes, bytes: usize) -> bool
     ensures { Decides (SizesSound sizes bytes) result }
 {
-    in_range(sizes.names, 1, MOST_NAMES)
-        && in_range(sizes.reservations, 1, MOST_RESERVATIONS)
+    (1..=MOST_NAMES).contains(&sizes.names)
+        && (1..=MOST_RESERVATIONS).contains(&sizes.reservations)
         && sizes.used <= sizes.names
         && sizes.live <= sizes.reservations
         && bytes
@@ -60,7 +54,7 @@ fn version_sound(version: u64) -> bool
 fn head_sound(head: Head) -> bool
     ensures { Decides (HeadSound head) result }
 {
-    in_range(head.next_id, 1, rules::M)
+    (1..=rules::M).contains(&head.next_id)
         && head.baseline <= rules::M
         && version_sound(head.last_version)
 }

@@ -9,7 +9,7 @@ use Rattle.soundness.proofs.amounts_sound.Goals.{then-place-gt-M-via-then-place-
 pub returns-then-place-gt-M : goal.returns-then-place-gt-M
 unfolding M
 returns-then-place-gt-M c = refuse (λ h. elim c.then-place-gt-M.branch [
-    limit w ↦ omega (arith, h.0.limit)
+  | limit w ↦ omega (arith, h.0.limit)
   | sum w ↦ w.if-not-adds_up.ensures.fails refl (sound-adds-up _ h.0)
 ])
 

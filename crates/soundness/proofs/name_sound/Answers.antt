@@ -28,8 +28,8 @@ loop-part-preserved c =
     let bytes = name-at-bytes c.args.i room (all-bytes room c.type_inv.room) in
     let read = c.read8-word.ensures ∙ ap little_number c.name_part.ensures.stands in
     λ k below from. ⊎_elim (λ low. c.loop-part.invariant k low from)
-        (λ high. small-zeros _ bytes c.loop-part.part _ _ _ c.name_length-length.ensures read c.saturating_sub.ensures (c.if-not-is_clear.ensures.holds refl) k high (omega arith) from)
-        (less-or-not k (8 * c.loop-part.part))
+    (λ high. small-zeros _ bytes c.loop-part.part _ _ _ c.name_length-length.ensures read c.saturating_sub.ensures (c.if-not-is_clear.ensures.holds refl) k high (omega arith) from)
+    (less-or-not k (8 * c.loop-part.part))
 
 pub returns : goal.returns
 returns c =

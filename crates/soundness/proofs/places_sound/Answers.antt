@@ -22,7 +22,7 @@ returns-then-not-amounts_sound-clause-decides c = refuse (λ sound.
     let loaded = c.load_place-place.ensures in
     let here = place-sound c.args.room.now c.loop-i.i _ loaded c.args.baseline c.args.used sound c.loop-i-test.true in
     elim c.then-not-amounts_sound.branch [
-        amounts w ↦ w.if-not-amounts_sound.ensures.fails refl (here.seat, here.held)
+      | amounts w ↦ w.if-not-amounts_sound.ensures.fails refl (here.seat, here.held)
       | name w ↦ w.if-not-name_sound.ensures.fails refl (rw loaded at here.name)
       | order w ↦ w.if-not-ascends.ensures.fails refl (name-follows c.args.room.now c.loop-i.i _ loaded c.args.baseline c.args.used sound c.loop-i-test.true)
     ])

@@ -11,36 +11,36 @@ returns-then-is_zero-2 c =
     let a = c.args in
     let bytes = all-bytes a.room.now c.type_inv.room in
     elim c.if-bookings_sound.branch [
-        else-bookings_sound w ↦ cc
+      | else-bookings_sound w ↦ cc
       | then-bookings_sound w ↦ elim c.if-is_zero.branch [
-            else-is_zero v ↦ cc
-          | then-is_zero v ↦ elim c.if-places_sound.branch [
-                else-places_sound u ↦ cc
-              | then-places_sound u ↦
-                    let noted = u.if-places_sound.ensures.noted refl in
-                    by_answer c.nothing_left.ensures
-                    (λ none. of_parts a.sizes a.head a.room.now c.requires.read bytes c.requires.sized _ noted
-                    (u.if-places_sound.ensures.decides.holds refl) (u.is_zero.ensures.holds (cc))
-                    (v.bookings_sound.ensures.suffices (cc) (rw v.reserved-is at none)) (w.is_zero-then-bookings_sound.ensures.holds (cc)))
-                    (λ tables. rw v.reserved-is (v.bookings_sound.ensures.needed (cc) (booked-part a.sizes a.head a.room.now c.requires.read bytes c.requires.sized tables _ noted)))
-            ]
+        | else-is_zero v ↦ cc
+        | then-is_zero v ↦ elim c.if-places_sound.branch [
+          | else-places_sound u ↦ cc
+          | then-places_sound u ↦
+              let noted = u.if-places_sound.ensures.noted refl in
+              by_answer c.nothing_left.ensures
+              (λ none. of_parts a.sizes a.head a.room.now c.requires.read bytes c.requires.sized _ noted
+              (u.if-places_sound.ensures.decides.holds refl) (u.is_zero.ensures.holds (cc))
+              (v.bookings_sound.ensures.suffices (cc) (rw v.reserved-is at none)) (w.is_zero-then-bookings_sound.ensures.holds (cc)))
+              (λ tables. rw v.reserved-is (v.bookings_sound.ensures.needed (cc) (booked-part a.sizes a.head a.room.now c.requires.read bytes c.requires.sized tables _ noted)))
         ]
+      ]
     ]
 
 pub returns-else-is_zero-2 : goal.returns-else-is_zero-2
-returns-else-is_zero-2 c = 
+returns-else-is_zero-2 c =
     let a = c.args in
     let bytes = all-bytes a.room.now c.type_inv.room in
     rw c.if-is_zero-2.false (refuse (λ tables. elim c.if-bookings_sound.branch [
-        then-bookings_sound w ↦ w.is_zero-then-bookings_sound.ensures.fails (cc) (unused-bookings-part a.sizes a.head a.room.now c.requires.read bytes c.requires.sized tables)
+      | then-bookings_sound w ↦ w.is_zero-then-bookings_sound.ensures.fails (cc) (unused-bookings-part a.sizes a.head a.room.now c.requires.read bytes c.requires.sized tables)
       | else-bookings_sound w ↦ elim c.if-is_zero.branch [
-            then-is_zero v ↦ elim c.if-places_sound.branch [
-                then-places_sound u ↦ v.bookings_sound.ensures.fails (cc) (booked-part a.sizes a.head a.room.now c.requires.read bytes c.requires.sized tables _ (u.if-places_sound.ensures.noted refl))
-              | else-places_sound u ↦ cc
-            ]
-          | else-is_zero v ↦ elim c.if-places_sound.branch [
-                then-places_sound u ↦ u.is_zero.ensures.fails (cc) (unused-places-part a.sizes a.head a.room.now c.requires.read bytes c.requires.sized tables)
-              | else-places_sound u ↦ u.if-places_sound.ensures.decides.fails refl (places-part a.sizes a.head a.room.now c.requires.read bytes c.requires.sized tables)
-            ]
+        | then-is_zero v ↦ elim c.if-places_sound.branch [
+          | then-places_sound u ↦ v.bookings_sound.ensures.fails (cc) (booked-part a.sizes a.head a.room.now c.requires.read bytes c.requires.sized tables _ (u.if-places_sound.ensures.noted refl))
+          | else-places_sound u ↦ cc
         ]
+        | else-is_zero v ↦ elim c.if-places_sound.branch [
+          | then-places_sound u ↦ u.is_zero.ensures.fails (cc) (unused-places-part a.sizes a.head a.room.now c.requires.read bytes c.requires.sized tables)
+          | else-places_sound u ↦ u.if-places_sound.ensures.decides.fails refl (places-part a.sizes a.head a.room.now c.requires.read bytes c.requires.sized tables)
+        ]
+      ]
     ]))
