@@ -10,7 +10,7 @@ use borrow.Author.Tests.{eq-eqb, ne_eqb, eqb-true, lt-ltb, le-ltb, ltb-false}
 use lib.Dec.{ltb, eqb}
 use lib.IntN.{ℤ, pos, negsuc, ◌-ℤ◌}
 use lib.Signed.{lt_z, mag}
-use Rattle.std.specs.Prelude.{Option as Answer, Some, None, Ok, Err, ok_or}
+use Rattle.std.specs.Prelude.{Option as Answer, Some, None, Err, ok_or}
 use Rattle.rules.specs.RoomAndSoundLedger.{M, Account, seat, has_account, AddsUp}
 use Rattle.rules.specs.AnswerNumbers.{NegativeAmount, InvalidAmount, MissingTenant, MissingReservation, OverflowOfReserve, OverflowOfCommit, OverflowOfTopUp, ExposureLimitExceeded, Insufficient, Overrun}
 use Rattle.rules.specs.AccountRules.{refuse, tell, write, lose, book, leave, end, account, natural, ensure_rule, top_up_rule, limit_rule, reserve_rule, commit_rule, release_rule}
@@ -56,7 +56,7 @@ module _ (s : Seat) where
   pub amounts-add-up : SeatSound s → (s.account ≡ 0 → ⊥) → AmountsAddUp s
   amounts-add-up sound h = subst AddsUp (with_account h) sound.adds_up
 
--- every seat that a rule writes but a limit's has an account
+-- a seat with an account is sound where its amounts add up
 pub account-sound : (initial remaining reserved committed limit : ℕ) → remaining + reserved + committed ≡ initial → initial ≤ M → limit ≤ M
     → SeatSound (record { initial = initial; remaining = remaining; reserved = reserved; committed = committed; limit = limit; account = 1 })
 account-sound initial remaining reserved committed limit e h k = record { form = unfold kept_seat in refl; adds_up = (e, h); limit = k }

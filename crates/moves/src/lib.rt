@@ -83,10 +83,7 @@ pub fn reserve(seat: Seat, asked: u64, reserved: u64) -> Result<Seat, Refusal>
     ensures { (reserving_move asked result ≡ reserve_rule (pos asked) false (account_of seat) seat.limit) × IfOk result SeatSound }
 {
     let Some(remaining) = seat.remaining.checked_sub(asked) else {
-        return Err(Refusal::Insufficient(
-            numbers::amount(seat.remaining),
-            numbers::amount(asked),
-        ));
+        return Err(Refusal::Insufficient(numbers::amount(seat.remaining), numbers::amount(asked)));
     };
     Ok(Seat {
         remaining,
