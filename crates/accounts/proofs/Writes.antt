@@ -1,50 +1,78 @@
--- When a rule writes a seat: what it then says of the account that its airline had. And what an amount and a sound seat say of numbers.
-use mathlib.Core.Path.{◌≡◌, refl, ap, subst}
+-- When a rule writes a seat: what it then says of the account that its airline had. And what each test that comes before a rule by value says of the rule.
+use mathlib.Core.Path.{◌≡◌, refl, sym, ap, subst}
 use mathlib.Core.Bool.{true, false}
 use mathlib.Core.List.{List}
 use mathlib.Core.Option.{Option, none, some}
-use Prim.Native.Nat.{ℕ, zero, suc, ◌+◌}
+use Prim.Native.Nat.{ℕ, zero, suc, ◌+◌, ◌^◌, ◌≤◌, ◌<◌}
 use native.Mathlib.Omega.{arith}
 use lib.Dec.{ltb}
 use lib.IntN.{ℤ, pos, negsuc}
+use lib.Signed.{mag}
+use Rattle.std.specs.Prelude.{Option as Answer, Some, None, Result}
 use Rattle.rules.specs.RoomAndSoundLedger.{M, Account, Seat as RulesSeat, seat, is_vacant, has_account}
-use Rattle.rules.specs.AccountRules.{Move, write, ensure_rule, top_up_rule, limit_rule}
+use Rattle.rules.specs.AnswerNumbers.{NegativeAmount, InvalidAmount, MissingTenant}
+use Rattle.rules.specs.AccountRules.{Move, refuse, write, ensure_rule, top_up_rule, limit_rule}
 use Rattle.rules.proofs.Tests.{by-test, true-false}
+use Rattle.refusals.specs.declared.Refusal.{Refusal}
+use Rattle.numbers.specs.Amounts.{natural_of, positive_of}
+use Rattle.numbers.proofs.Amounts.{natural-some, positive-is}
+use Rattle.moves.specs.Moves.{ensuring_move, topping_up_move}
+use Rattle.moves.specs.declared.Seat.{Seat}
 
 -- a vacant seat is written only for a name without an account
 abbrev pub Vacates : (Option Account → ℕ → Move) → Type 0
 Vacates rule = (c : Option Account) (l : ℕ) (zs : List ℤ) (t : RulesSeat) → write zs t ≡ rule c l → is_vacant t ≡ true → c ≡ none
 
-pub ensure-vacates : (z : ℤ) → Vacates (ensure_rule z)
-unfolding ensure_rule
-ensure-vacates (negsuc n) c l zs t e v = absurd (let w : ◌≡◌ {A = ℕ} 0 1 = cc in omega arith)
-ensure-vacates (pos n) none l zs t e v = refl
-ensure-vacates (pos n) (some c) l zs t e v = absurd (let w : ◌≡◌ {A = ℕ} 0 1 = cc in omega arith)
-
--- "3": a top-up that writes found an account, and leaves one
-pub top-up-writes : (z : ℤ) (c : Option Account) (l : ℕ) (zs : List ℤ) (t : RulesSeat) → write zs t ≡ top_up_rule z c l → (has_account c ≡ true) × (is_vacant t ≡ false)
-unfolding top_up_rule
-top-up-writes (negsuc n) c l zs t e = absurd (let w : ◌≡◌ {A = ℕ} 0 1 = cc in omega arith)
-top-up-writes (pos zero) c l zs t e = absurd (let w : ◌≡◌ {A = ℕ} 0 1 = cc in omega arith)
-top-up-writes (pos (suc n)) none l zs t e = absurd (let w : ◌≡◌ {A = ℕ} 0 1 = cc in omega arith)
-top-up-writes (pos (suc n)) (some c) l zs t e = (
-  refl,
-  by-test (λ m. write zs t ≡ m → is_vacant t ≡ false) (ltb M (c.initial + suc n))
-      (λ _ q. absurd (let w : ◌≡◌ {A = ℕ} 0 1 = cc in omega arith))
-      (λ _ q. ap is_vacant (written q)) e,
-)
-  where
-    written : {ys : List ℤ} {s : RulesSeat} → write zs t ≡ write ys s → t ≡ s
-    written q = cc
-
-pub top-up-vacates : (z : ℤ) → Vacates (top_up_rule z)
-top-up-vacates z c l zs t e v = true-false v (top-up-writes z c l zs t e).1
-
 vacant-seat : (c : Option Account) (n : ℕ) → is_vacant (seat c n) ≡ true → c ≡ none
 vacant-seat none n v = refl
-vacant-seat (some c) n v = true-false v refl
+vacant-seat (some c) n v = cc
+
+pub ensure-vacates : (z : ℤ) → Vacates (ensure_rule z)
+unfolding ensure_rule
+ensure-vacates (negsuc n) c l zs t e v = cc
+ensure-vacates (pos n) none l zs t e v = refl
+ensure-vacates (pos n) (some c) l zs t e v = cc
+
+pub top-up-vacates : (z : ℤ) → Vacates (top_up_rule z)
+unfolding top_up_rule
+top-up-vacates (negsuc n) c l zs t e v = cc
+top-up-vacates (pos zero) c l zs t e v = cc
+top-up-vacates (pos (suc n)) none l zs t e v = refl
+top-up-vacates (pos (suc n)) (some c) l zs t e v = by-test (λ m. write zs t ≡ m → some c ≡ none) (ltb M (c.initial + suc n)) (λ _ q. cc) (λ _ q. cc) e
 
 pub limit-vacates : (z : ℤ) → Vacates (limit_rule z)
 unfolding limit_rule
-limit-vacates (negsuc n) c l zs t e v = absurd (let w : ◌≡◌ {A = ℕ} 0 1 = cc in omega arith)
+limit-vacates (negsuc n) c l zs t e v = cc
 limit-vacates (pos n) c l zs t e v = let q : t ≡ seat c n = cc in vacant-seat c n (subst (λ s. is_vacant s ≡ true) q v)
+
+-- ── what the test of an amount says of a rule ──────────────────────────────────────────────────
+
+-- an amount is a signed 64-bit number, so one that is not negative is at most M
+pub opening-small : (z : ℤ) (n : ℕ) → Some n ≡ natural_of z → mag z < 2 ^ 63 → n ≤ M
+unfolding M
+opening-small z n e h = let q : mag z ≡ n = ap mag (natural-some z n (sym e)) in omega arith
+
+pub ensure-refuses : (z : ℤ) (c : Option Account) (l : ℕ) → None ≡ natural_of z → refuse (NegativeAmount z) ≡ ensure_rule z c l
+unfolding ensure_rule
+ensure-refuses (pos n) c l e = cc
+ensure-refuses (negsuc n) c l e = refl
+
+-- what was decided of the number is decided of the amount
+pub ensure-decides : (z : ℤ) (n : ℕ) (c : Option Account) (l : ℕ) (r : Answer Seat) → Some n ≡ natural_of z → ensuring_move r ≡ ensure_rule (pos n) c l → ensuring_move r ≡ ensure_rule z c l
+ensure-decides z n c l r e q = rw (natural-some z n (sym e)) q
+
+pub top-up-refuses : (z : ℤ) (c : Option Account) (l : ℕ) → None ≡ positive_of z → refuse InvalidAmount ≡ top_up_rule z c l
+unfolding top_up_rule
+top-up-refuses (pos zero) c l e = refl
+top-up-refuses (pos (suc n)) c l e = cc
+top-up-refuses (negsuc n) c l e = refl
+
+pub top-up-misses : (z : ℤ) (n : ℕ) (c : Option Account) (l : ℕ) → Some n ≡ positive_of z → has_account c ≡ false → refuse MissingTenant ≡ top_up_rule z c l
+unfolding top_up_rule
+top-up-misses (pos zero) n c l e h = cc
+top-up-misses (pos (suc k)) n none l e h = refl
+top-up-misses (pos (suc k)) n (some c) l e h = cc
+top-up-misses (negsuc k) n c l e h = cc
+
+pub top-up-decides : (z : ℤ) (n : ℕ) (c : Option Account) (l : ℕ) (r : Result Seat Refusal) → Some n ≡ positive_of z → topping_up_move (pos n) r ≡ top_up_rule (pos n) c l → topping_up_move z r ≡ top_up_rule z c l
+top-up-decides z n c l r e q = rw (positive-is z n (sym e)).0 q
