@@ -1,18 +1,15 @@
--- When a rule writes a seat: what it then says of the account that its airline had. And what each test that comes before a rule by value says of the rule.
-use mathlib.Core.Path.{◌≡◌, refl, sym, ap, subst}
-use mathlib.Core.Bool.{true, false}
+-- When a rule writes a seat: what it then says of the account that its airline had. And what a rule by value decides, of the amount that was asked for.
+use mathlib.Core.Path.{◌≡◌, refl, sym, subst}
+use mathlib.Core.Bool.{true}
 use mathlib.Core.List.{List}
 use mathlib.Core.Option.{Option, none, some}
-use Prim.Native.Nat.{ℕ, zero, suc, ◌+◌, ◌^◌, ◌≤◌, ◌<◌}
-use native.Mathlib.Omega.{arith}
+use Prim.Native.Nat.{ℕ, zero, suc, ◌+◌}
 use lib.Dec.{ltb}
 use lib.IntN.{ℤ, pos, negsuc}
-use lib.Signed.{mag}
-use Rattle.std.specs.Prelude.{Option as Answer, Some, None, Result}
-use Rattle.rules.specs.RoomAndSoundLedger.{M, Account, Seat as RulesSeat, seat, is_vacant, has_account}
-use Rattle.rules.specs.AnswerNumbers.{NegativeAmount, InvalidAmount, MissingTenant}
-use Rattle.rules.specs.AccountRules.{Move, refuse, write, ensure_rule, top_up_rule, limit_rule}
-use Rattle.rules.proofs.Tests.{by-test, true-false}
+use Rattle.std.specs.Prelude.{Option as Answer, Some, Result}
+use Rattle.rules.specs.RoomAndSoundLedger.{M, Account, Seat as RulesSeat, seat, is_vacant}
+use Rattle.rules.specs.AccountRules.{Move, write, ensure_rule, top_up_rule, limit_rule}
+use Rattle.rules.proofs.Tests.{by-test}
 use Rattle.refusals.specs.declared.Refusal.{Refusal}
 use Rattle.numbers.specs.Amounts.{natural_of, positive_of}
 use Rattle.numbers.proofs.Amounts.{natural-some, positive-is}
@@ -45,34 +42,10 @@ unfolding limit_rule
 limit-vacates (negsuc n) c l zs t e v = cc
 limit-vacates (pos n) c l zs t e v = let q : t ≡ seat c n = cc in vacant-seat c n (subst (λ s. is_vacant s ≡ true) q v)
 
--- ── what the test of an amount says of a rule ──────────────────────────────────────────────────
+-- ── what was decided of a number is decided of the amount ──────────────────────────────────────
 
--- an amount is a signed 64-bit number, so one that is not negative is at most M
-pub opening-small : (z : ℤ) (n : ℕ) → Some n ≡ natural_of z → mag z < 2 ^ 63 → n ≤ M
-unfolding M
-opening-small z n e h = let q : mag z ≡ n = ap mag (natural-some z n (sym e)) in omega arith
-
-pub ensure-refuses : (z : ℤ) (c : Option Account) (l : ℕ) → None ≡ natural_of z → refuse (NegativeAmount z) ≡ ensure_rule z c l
-unfolding ensure_rule
-ensure-refuses (pos n) c l e = cc
-ensure-refuses (negsuc n) c l e = refl
-
--- what was decided of the number is decided of the amount
 pub ensure-decides : (z : ℤ) (n : ℕ) (c : Option Account) (l : ℕ) (r : Answer Seat) → Some n ≡ natural_of z → ensuring_move r ≡ ensure_rule (pos n) c l → ensuring_move r ≡ ensure_rule z c l
 ensure-decides z n c l r e q = rw (natural-some z n (sym e)) q
-
-pub top-up-refuses : (z : ℤ) (c : Option Account) (l : ℕ) → None ≡ positive_of z → refuse InvalidAmount ≡ top_up_rule z c l
-unfolding top_up_rule
-top-up-refuses (pos zero) c l e = refl
-top-up-refuses (pos (suc n)) c l e = cc
-top-up-refuses (negsuc n) c l e = refl
-
-pub top-up-misses : (z : ℤ) (n : ℕ) (c : Option Account) (l : ℕ) → Some n ≡ positive_of z → has_account c ≡ false → refuse MissingTenant ≡ top_up_rule z c l
-unfolding top_up_rule
-top-up-misses (pos zero) n c l e h = cc
-top-up-misses (pos (suc k)) n none l e h = refl
-top-up-misses (pos (suc k)) n (some c) l e h = cc
-top-up-misses (negsuc k) n c l e h = cc
 
 pub top-up-decides : (z : ℤ) (n : ℕ) (c : Option Account) (l : ℕ) (r : Result Seat Refusal) → Some n ≡ positive_of z → topping_up_move (pos n) r ≡ top_up_rule (pos n) c l → topping_up_move z r ≡ top_up_rule z c l
 top-up-decides z n c l r e q = rw (positive-is z n (sym e)).0 q

@@ -1,12 +1,15 @@
 -- `accounts::ensure` meets its contract: what was looked up is the name's seat (`seen`), the rule by value decides on it, and each answer is carried out
 -- by one law of Performing.
+use mathlib.Core.Path.{sym}
 use mathlib.Core.List.{[]}
 use native.Mathlib.Omega.{arith}
 use Rattle.std.specs.Prelude.{Some, None}
 use Rattle.rules.specs.AnswerNumbers.{NegativeAmount}
+use Rattle.numbers.proofs.Amounts.{natural-none, natural-some}
+use Rattle.moves.proofs.Cases.{natural-small, ensure-negative}
 use Rattle.room.proofs.SoundRoom.{searchable}
 use Rattle.lookup.proofs.Places.{seat-readable}
-use Rattle.accounts.proofs.Writes.{opening-small, ensure-refuses, ensure-decides}
+use Rattle.accounts.proofs.Writes.{ensure-decides}
 use Rattle.accounts.proofs.Performing.{seen, seen-sound, ready, too_long, refuses, tells, writes, ensuring}
 use Rattle.accounts.proofs.ensure.Goals as goal
 
@@ -23,12 +26,12 @@ pub returns-in_default : goal.returns-in_default
 returns-in_default c =
     let ensures = ensuring c.args.part.now c.args.amount.0 c.type_inv.part (omega arith) in
     let looked = seen c.requires c.if-part-gt-LONGEST_NAME.false c.find-found.ensures c.seat_at-seat.ensures in
-    refuses ensures looked (NegativeAmount c.args.amount.0) (ensure-refuses c.args.amount.0 _ _ c.in_default.ensures)
+    refuses ensures looked (NegativeAmount c.args.amount.0) (ensure-negative c.args.amount.0 _ _ (natural-none c.args.amount.0 (sym c.in_default.ensures)))
 
 pub ensure-requires : goal.ensure-requires
 ensure-requires c =
     let looked = seen c.requires c.if-part-gt-LONGEST_NAME.false c.find-found.ensures c.seat_at-seat.ensures in
-    (seen-sound looked, opening-small c.args.amount.0 _ c.in-Some.ensures (omega arith))
+    (seen-sound looked, natural-small c.args.amount.0 c.in-Some.opening (natural-some c.args.amount.0 c.in-Some.opening (sym c.in-Some.ensures)) (omega arith))
 
 pub returns-in_default-ensure : goal.returns-in_default-ensure
 returns-in_default-ensure c =

@@ -1,19 +1,16 @@
 -- `accounts::top_up` meets its contract: as for `ensure`; what is carried out are the amounts of a seat that is sound, so each is at most M.
 use mathlib.Core.Path.{sym}
-use mathlib.Core.List.{List, [], ◌∷◌}
 use native.Mathlib.Omega.{arith}
-use lib.IntN.{ℤ, pos}
 use Rattle.std.specs.Prelude.{Ok, Err}
 use Rattle.std.proofs.lemmas.Result.{err_from_is_err_and}
 use Rattle.rules.specs.AnswerNumbers.{InvalidAmount, MissingTenant}
-use Rattle.rules.specs.AccountRules.{refuse, write}
 use Rattle.numbers.proofs.Amounts.{positive-is}
 use Rattle.refusals.specs.Answers.{refusal_of}
-use Rattle.moves.specs.Moves.{meaning}
+use Rattle.moves.proofs.Cases.{is-missing, top-up-of-none, top-up-missing}
 use Rattle.room.proofs.SoundRoom.{searchable}
 use Rattle.room.proofs.Seating.{seat-small}
 use Rattle.lookup.proofs.Places.{seat-readable}
-use Rattle.accounts.proofs.Writes.{top-up-refuses, top-up-misses, top-up-decides}
+use Rattle.accounts.proofs.Writes.{top-up-decides}
 use Rattle.accounts.proofs.Performing.{seen, seen-sound, ready, too_long, refuses, writes, topping_up}
 use Rattle.accounts.proofs.top_up.Goals as goal
 
@@ -30,13 +27,15 @@ pub returns-in_default : goal.returns-in_default
 returns-in_default c =
     let tops_up = topping_up c.args.part.now c.args.amount.0 c.type_inv.part (omega arith) in
     let looked = seen c.requires c.if-part-gt-LONGEST_NAME.false c.find-found.ensures c.seat_at-seat.ensures in
-    refuses tops_up looked InvalidAmount (top-up-refuses c.args.amount.0 _ _ c.in_default.ensures)
+    refuses tops_up looked InvalidAmount (top-up-of-none c.args.amount.0 _ _ (sym c.in_default.ensures))
 
 pub returns-then-not-has_account : goal.returns-then-not-has_account
 returns-then-not-has_account c =
     let tops_up = topping_up c.args.part.now c.args.amount.0 c.type_inv.part (omega arith) in
     let looked = seen c.requires c.if-part-gt-LONGEST_NAME.false c.find-found.ensures c.seat_at-seat.ensures in
-    refuses tops_up looked MissingTenant (top-up-misses c.args.amount.0 c.in-Some.added _ _ c.in-Some.ensures (sym c.if-not-has_account.ensures))
+    let seat = c.seat_at-seat.result in
+    let is = positive-is c.args.amount.0 c.in-Some.added (sym c.in-Some.ensures) in
+    refuses tops_up looked MissingTenant (top-up-missing seat c.args.amount.0 c.in-Some.added is.0 is.1 (is-missing seat (sym c.if-not-has_account.ensures)))
 
 pub top_up-requires : goal.top_up-requires
 top_up-requires c =
