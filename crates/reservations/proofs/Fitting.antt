@@ -1,6 +1,6 @@
 -- A seat that a reserve, a commit or a release writes is not vacant. And what a rule by value decides, of the amount that was asked for.
 use mathlib.Core.Path.{◌≡◌, sym}
-use mathlib.Core.Bool.{Bool, false, ◌&&◌}
+use mathlib.Core.Bool.{Bool, true, false, ◌&&◌}
 use mathlib.Core.List.{List}
 use mathlib.Core.Option.{Option, none, some}
 use Prim.Native.Nat.{ℕ, zero, suc, ◌+◌}
@@ -8,14 +8,15 @@ use lib.Dec.{ltb}
 use lib.IntN.{ℤ, pos, negsuc, ◌-ℤ◌}
 use lib.Signed.{lt_z}
 use Rattle.std.specs.Prelude.{Some, Result}
-use Rattle.rules.specs.RoomAndSoundLedger.{M, Account, Seat, is_vacant}
+use Rattle.rules.specs.RoomAndSoundLedger.{M, Account, Seat, is_vacant, has_account}
 use Rattle.rules.specs.AccountRules.{Settlement, book, end, reserve_rule, commit_rule, release_rule}
 use Rattle.rules.proofs.Tests.{by-test}
-use Rattle.numbers.specs.Amounts.{natural_of, positive_of}
-use Rattle.numbers.proofs.Amounts.{natural-some, positive-is}
+use Rattle.numbers.specs.Amounts.{sum_of, natural_of, positive_of}
+use Rattle.numbers.proofs.Amounts.{natural-some, positive-is, fits_sum}
 use Rattle.refusals.specs.declared.Refusal.{Refusal}
 use Rattle.moves.specs.declared.Seat.{Seat as RoomSeat}
-use Rattle.moves.specs.Moves.{reserving_move, committing_settlement}
+use Rattle.moves.specs.Moves.{account_of, reserving_move, committing_settlement}
+use Rattle.moves.proofs.Cases.{Asked, Passes, is-present}
 
 pub reserve-keeps : (z : ℤ) (last : Bool) (c : Option Account) (l remaining cost : ℕ) (t : Seat) → book remaining t cost ≡ reserve_rule z last c l → is_vacant t ≡ false
 unfolding reserve_rule
@@ -52,3 +53,12 @@ reserve-decides z n last c l r e q = rw (positive-is z n (sym e)).0 q
 
 pub commit-decides : (z : ℤ) (n : ℕ) (live : Option ℕ) (c : Option Account) (l : ℕ) (r : Result RoomSeat Refusal) → Some n ≡ natural_of z → committing_settlement (pos n) r ≡ commit_rule (pos n) live c l → committing_settlement z r ≡ commit_rule z live c l
 commit-decides z n live c l r e q = rw (natural-some z n (sym e)) q
+
+-- ── what the checks of a reserve leave ─────────────────────────────────────────────────────────
+
+module _ (s : RoomSeat) (z : ℤ) (n : ℕ) (amount : Some n ≡ positive_of z) where
+  pub asks : true ≡ has_account (account_of s) → Asked s z n
+  asks has = let is = positive-is z n (sym amount) in record { amount = is.0; positive = is.1; present = is-present s (sym has) }
+
+  pub passes : true ≡ has_account (account_of s) → (reserved : ℕ) → Some reserved ≡ sum_of s.reserved n → false ≡ (ltb 0 s.limit && ltb s.limit reserved) → Passes s z n reserved
+  passes has reserved sum within = let is = fits_sum s.reserved n reserved (sym sum) in record { asked = asks has; sum = is.0; fits = is.1; within = sym within }
