@@ -4,9 +4,9 @@ use Prim.Native.Nat.{suc, ◌+◌, ◌-◌, ◌*◌}
 use native.Mathlib.Omega.{arith}
 use Rattle.records.specs.Layout.{booking_size}
 use Rattle.records.specs.Rows.{row, put}
-use Rattle.room.specs.Contents.{contents_of, empty_booking}
+use Rattle.room.specs.Contents.{empty_booking}
 use Rattle.tables.proofs.Gap.{gap-put}
-use Rattle.tables.proofs.Stores.{SizedBy, sized-by, bookings-moved}
+use Rattle.tables.proofs.Stores.{sized-by, bookings-moved}
 use Rattle.tables.proofs.move_bookings_down.Goals as goal
 
 pub overflow_mul-from : goal.overflow_mul-from
