@@ -30,8 +30,8 @@ load_booking-booking-requires c =
     let r = z.room in
     omega (arith, c.requires.1)
 
-pub seat_at-seat-requires : goal.seat_at-seat-requires
-seat_at-seat-requires c =
+pub seat_at-requires : goal.seat_at-requires
+seat_at-requires c =
     let xs = c.args.room.now in
     let L = c.requires.0.ledger in
     let room = c.requires.0.is_room in
@@ -47,5 +47,5 @@ returns c L room =
     let xs = c.args.room.now in
     let below : c.args.j < length L.bookings = omega (arith, live-is xs L room, c.requires.1) in
     let booking = booking-is xs L room c.args.j below c.load_sizes-sizes.result c.load_sizes-sizes.ensures c.load_booking-booking.result c.load_booking-booking.ensures in
-    let seat = seat-there xs L room c.args.j below c.load_booking-booking.result.owner (ap (λ (b : Booking). b.owner) booking) c.seat_at-seat.result c.seat_at-seat.ensures in
+    let seat = seat-there xs L room c.args.j below c.load_booking-booking.result.owner (ap (λ (b : Booking). b.owner) booking) c.seat_at.result c.seat_at.ensures in
     λ i. record { amount = (booking i).amount; owner = (booking i).owner; seat = seat i }
