@@ -1,3 +1,2 @@
 pub mod Seeking
-pub mod Sums
 pub mod Totals

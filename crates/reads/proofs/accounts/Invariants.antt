@@ -1,12 +1,13 @@
--- `reads::accounts` meets its contract. The invariant: the count is the number of accounts among the places passed.
+-- The invariant of `reads::accounts`: with the accounts among the places to come, the count is the ledger's.
 use mathlib.Core.Path.{◌≡◌}
-use Prim.Native.Nat.{◌-◌, ◌≤◌}
-use Rattle.reads.proofs.Sums.{sum_to}
-use Rattle.reads.proofs.Totals.{counted}
+use Prim.Native.Nat.{◌+◌, ◌≤◌}
+use lib.ListN.{drop}
+use Rattle.room.specs.Room.{OfRoom}
+use Rattle.reads.proofs.Totals.{accounts_in}
 use Rattle.reads.proofs.accounts.Given as goal
 
 abbrev pub invariant-loop-at : goal.invariant-loop-at
-invariant-loop-at l = (l.at ≤ l.used) × (l.count ≡ sum_to counted l.room l.at) × (l.count ≤ l.at)
-
-abbrev pub decreases-loop-at : goal.decreases-loop-at
-decreases-loop-at l = l.used - l.at
+invariant-loop-at l = record {
+  count : OfRoom l.room (λ L. l.count + accounts_in (drop l.at L.places) ≡ accounts_in L.places);
+  small : l.count ≤ l.at;
+}

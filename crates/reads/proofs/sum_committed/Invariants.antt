@@ -1,13 +1,13 @@
--- `reads::sum_committed` meets its contract. The invariant: the total is the sum over the places passed, and not above M.
+-- The invariant of `reads::sum_committed`: with what the places to come have committed, the total is the ledger's; and it is not above M.
 use mathlib.Core.Path.{◌≡◌}
-use Prim.Native.Nat.{◌-◌, ◌≤◌}
-use Rattle.rules.specs.RoomAndSoundLedger.{M}
-use Rattle.reads.proofs.Sums.{sum_to}
-use Rattle.reads.proofs.Totals.{committed_in}
+use Prim.Native.Nat.{◌+◌, ◌≤◌}
+use lib.ListN.{drop}
+use Rattle.rules.specs.RoomAndSoundLedger.{M, committed_total}
+use Rattle.room.specs.Room.{OfRoom}
 use Rattle.reads.proofs.sum_committed.Given as goal
 
 abbrev pub invariant-loop-i : goal.invariant-loop-i
-invariant-loop-i l = (l.i ≤ l.used) × (l.total ≡ sum_to committed_in l.room l.i) × (l.total ≤ M)
-
-abbrev pub decreases-loop-i : goal.decreases-loop-i
-decreases-loop-i l = l.used - l.i
+invariant-loop-i l = record {
+  sum : OfRoom l.room (λ L. l.total + committed_total (drop l.i L.places) ≡ committed_total L.places);
+  small : l.total ≤ M;
+}
