@@ -9,9 +9,8 @@ use native.Mathlib.Nat.{min-eq_left, min-eq_right}
 use borrow.Author.Tests.{eq-eqb, ne_eqb, lt-ltb, le-ltb, ltb-true, ltb-false}
 use lib.Dec.{ltb, eqb}
 use lib.IntN.{pos}
-use lib.ListN.{length, get_or, drop, get_or-map}
+use lib.ListN.{length}
 use Rattle.std.specs.Prelude.{Option as Total, Some, None, Result, Ok, Err, IfOk, ok_or, unwrap_or}
-use Rattle.std.proofs.lemmas.List.{at_drop_more, at_drop_all}
 use Rattle.rules.specs.Lists.{sum, keep}
 use Rattle.rules.specs.RoomAndSoundLedger.{M, Account, Place as RulesPlace, Ledger, has_account, committed_of, committed_at, committed_total}
 use Rattle.rules.specs.AnswerNumbers.{Amount, Count, Version, done, reply_of}
@@ -29,14 +28,28 @@ use Rattle.refusals.specs.Answers.{answer_of}
 use Rattle.refusals.specs.declared.Refusal.{Refusal}
 use Rattle.refusals.specs.declared.Refusal.TheVariants.{AggregateOverflow}
 use Rattle.room.specs.Room.{place_record, IsRoom, SoundRoom, OfRoom}
-use Rattle.room.proofs.Decoding.{nowhere}
-use Rattle.room.proofs.InRoom.{loaded-place}
-use Rattle.room.proofs.SoundRoom.{sizes-are, head-is, places-are, sized}
+use Rattle.room.specs.Contents.{Sized}
+use Rattle.room.proofs.SoundRoom.{sizes-are, head-is, sized}
 use Rattle.reads.specs.Answers.{summed}
+use Rattle.reads.proofs.Sums.{sum_to, sum-next, sum-all, sum-within}
 
 -- ── the record of a place ──────────────────────────────────────────────────────────────────────
 
-record-committed : (p : RulesPlace) → (place_record p).committed ≡ committed_at p
+abbrev pub committed_in : Place → ℕ
+committed_in p = p.committed
+
+-- 1 for an account
+abbrev pub counted : Place → ℕ
+counted p = cond (eqb p.account 0) 0 1
+
+module _ (p : Place) where
+  pub counted-one : (p.account ≡ 0 → ⊥) → counted p ≡ 1
+  counted-one h = rw (ne_eqb p.account 0 h)
+
+  pub counted_none : p.account ≡ 0 → counted p ≡ 0
+  counted_none h = rw (eq-eqb p.account 0 h)
+
+record-committed : (p : RulesPlace) → committed_in (place_record p) ≡ committed_at p
 unfolding place_record kept_seat
 record-committed p = by-kept p.seat.account
   where
@@ -44,21 +57,20 @@ record-committed p = by-kept p.seat.account
     by-kept none = refl
     by-kept (some c) = refl
 
--- 1 for an account
-abbrev pub counted : Place → ℕ
-counted p = cond (eqb p.account 0) 0 1
-
--- the accounts among places
-abbrev pub accounts_in : List RulesPlace → ℕ
-accounts_in ps = length (keep is_account ps)
-
-record-counted : (p : RulesPlace) (ps : List RulesPlace) → accounts_in (p ∷ ps) ≡ counted (place_record p) + accounts_in ps
-unfolding keep place_record kept_seat
-record-counted p ps = by-kept p.seat.account
+record-counted : (p : RulesPlace) → counted (place_record p) ≡ cond (is_account p) 1 0
+unfolding place_record kept_seat
+record-counted p = by-kept p.seat.account
   where
-    by-kept : (c : Option Account) → length (cond (has_account c) (p ∷ keep is_account ps) (keep is_account ps)) ≡ cond (eqb (kept c p.seat.limit).account 0) 0 1 + length (keep is_account ps)
-    by-kept none = omega arith
-    by-kept (some c) = omega arith
+    by-kept : (c : Option Account) → ◌≡◌ {A = ℕ} (cond (eqb (kept c p.seat.limit).account 0) 0 1) (cond (has_account c) 1 0)
+    by-kept none = refl
+    by-kept (some c) = refl
+
+-- how many are kept, as a sum
+keep-counts : (ps : List RulesPlace) → sum (λ p. cond (is_account p) 1 0) ps ≡ length (keep is_account ps)
+unfolding sum keep
+keep-counts [] = refl
+keep-counts (p ∷ ps) = by_bool (λ b. cond b 1 0 + sum (λ q. cond (is_account q) 1 0) ps ≡ length (cond b (p ∷ keep is_account ps) (keep is_account ps))) (is_account p)
+    (λ _. omega (arith, keep-counts ps)) (λ _. omega (arith, keep-counts ps))
 
 -- ── a total that may be above M ────────────────────────────────────────────────────────────────
 
@@ -82,10 +94,6 @@ module _ (t : ℕ) where
 -- ── the ledger ─────────────────────────────────────────────────────────────────────────────────
 
 module _ (L : Ledger) where
-  pub accounts-read : (n : ℕ) → n ≡ accounts_in L.places → done (Count n ∷ []) ≡ read_ledger L read_accounts
-  unfolding read_ledger
-  accounts-read n e = ap (λ m. done (Count m ∷ [])) e
-
   module _ (o : Total ℕ) (is : o ≡ summed (committed_total L.places)) where
     abbrev total : ℕ
     total = committed_total L.places
@@ -99,54 +107,39 @@ module _ (L : Ledger) where
 
 -- ── the room of a ledger ───────────────────────────────────────────────────────────────────────
 
--- a place in use lies within the room
-pub place-loads : (xs : List ℕ) → SoundRoom xs → (s : Sizes) → s ≡ sizes_of xs → (i : ℕ) → i < s.used → place_start i + place_size ≤ length xs
-place-loads xs sound s is i h = let z = sized xs sound.ledger sound.is_room in omega (arith, z, ap (λ t. t.used) is)
+-- a place in use is loaded from within the room, and adds to a sum what is loaded
+module _ (xs : List ℕ) (sound : SoundRoom xs) (s : Sizes) (is : s ≡ sizes_of xs) (i : ℕ) (h : i < s.used) where
+  room_sized : Sized xs
+  room_sized = sized xs sound.ledger sound.is_room
+
+  in_use : i < (sizes_of xs).used
+  in_use = omega (arith, ap (λ t. t.used) is)
+
+  pub place-within : place_start i + place_size ≤ length xs
+  place-within = omega (arith, room_sized, in_use)
+
+  pub place-adds : (w : Place → ℕ) (p : Place) → p ≡ place_of (row place_size (place_start i) xs) → sum_to w xs (i + 1) ≡ sum_to w xs i + w p
+  place-adds w p e = sum-next w xs room_sized i in_use ∙ ap (λ q. sum_to w xs i + w q) (sym e)
 
 module _ (xs : List ℕ) (L : Ledger) (room : IsRoom xs L) where
+  pub committed-part : (i : ℕ) → sum_to committed_in xs i ≤ committed_total L.places
+  unfolding committed_total
+  committed-part = sum-within committed_in xs (sized xs L room) committed_at record-committed L room
+
   module _ (s : Sizes) (sizes_is : s ≡ sizes_of xs) where
-    in_use : s.used ≡ length L.places
-    in_use = ap (λ t. t.used) (sizes_is ∙ sizes-are xs L room)
+    pub committed-all : (i : ℕ) → s.used ≤ i → sum_to committed_in xs i ≡ committed_total L.places
+    unfolding committed_total
+    committed-all i h = sum-all committed_in xs (sized xs L room) committed_at record-committed L room i (omega (arith, ap (λ t. t.used) sizes_is))
+
+    pub count-is : (i n : ℕ) → s.used ≤ i → n ≡ sum_to counted xs i → done (Count n ∷ []) ≡ read_ledger L read_accounts
+    unfolding read_ledger
+    count-is i n h e =
+        ap (λ m. done (Count m ∷ []))
+        (e ∙ sum-all counted xs (sized xs L room) (λ p. cond (is_account p) 1 0) record-counted L room i (omega (arith, ap (λ t. t.used) sizes_is)) ∙ keep-counts L.places)
 
     pub live-is : done (Count s.live ∷ []) ≡ read_ledger L read_live
     unfolding read_ledger
     live-is = ap (λ t. done (Count t.live ∷ [])) (sizes_is ∙ sizes-are xs L room)
-
-    -- what the places from i on add, one of them after another
-    module _ (i : ℕ) where
-      pub committed-end : s.used ≤ i → committed_total (drop i L.places) ≡ 0
-      unfolding committed_total sum
-      committed-end h = at_drop_all (sum committed_at) L.places i (omega (arith, in_use))
-
-      pub accounts-end : s.used ≤ i → accounts_in (drop i L.places) ≡ 0
-      unfolding keep
-      accounts-end h = at_drop_all accounts_in L.places i (omega (arith, in_use))
-
-      module _ (h : i < s.used) (p : Place) (is : p ≡ place_of (row place_size (place_start i) xs)) where
-        record-is : p ≡ place_record (get_or L.places i nowhere)
-        record-is =
-            is
-            ∙ loaded-place xs (sized xs L room) i (place_record nowhere) (omega (arith, ap (λ t. t.used) sizes_is))
-            ∙ ap (λ ps. get_or ps i (place_record nowhere)) (places-are xs L room)
-            ∙ get_or-map place_record L.places i nowhere
-
-        pub committed-next : committed_total (drop i L.places) ≡ p.committed + committed_total (drop (i + 1) L.places)
-        unfolding committed_total sum
-        committed-next =
-            at_drop_more (sum committed_at) L.places i nowhere (omega (arith, in_use))
-            ∙ ap (λ n. n + sum committed_at (drop (i + 1) L.places)) (sym (ap (λ q. q.committed) record-is ∙ record-committed (get_or L.places i nowhere)))
-
-        accounts-next : accounts_in (drop i L.places) ≡ counted p + accounts_in (drop (i + 1) L.places)
-        accounts-next =
-            at_drop_more accounts_in L.places i nowhere (omega (arith, in_use))
-            ∙ record-counted (get_or L.places i nowhere) (drop (i + 1) L.places)
-            ∙ ap (λ q. counted q + accounts_in (drop (i + 1) L.places)) (sym record-is)
-
-        pub account-next : (p.account ≡ 0 → ⊥) → accounts_in (drop i L.places) ≡ 1 + accounts_in (drop (i + 1) L.places)
-        account-next h = rw (ne_eqb p.account 0 h) at accounts-next
-
-        pub vacant-next : p.account ≡ 0 → accounts_in (drop i L.places) ≡ accounts_in (drop (i + 1) L.places)
-        vacant-next h = omega (arith, rw (eq-eqb p.account 0 h) at accounts-next)
 
   pub version-is : (h : Head) → h ≡ head_of xs → done (Version h.last_version ∷ []) ≡ read_ledger L read_last_version
   unfolding read_ledger
