@@ -10,21 +10,25 @@ use borrow.Author.Tests.{eq-eqb, ne_eqb, eqb-true, lt-ltb, le-ltb, ltb-false}
 use lib.Dec.{ltb, eqb}
 use lib.IntN.{ℤ, pos, negsuc, ◌-ℤ◌}
 use lib.Signed.{lt_z, mag}
-use Rattle.rules.specs.RoomAndSoundLedger.{M, Account, seat, AddsUp}
+use Rattle.std.specs.Prelude.{Option as Answer, Some, None, Err, ok_or}
+use Rattle.rules.specs.RoomAndSoundLedger.{M, Account, seat, has_account, AddsUp}
 use Rattle.rules.specs.AnswerNumbers.{NegativeAmount, InvalidAmount, MissingTenant, MissingReservation, OverflowOfReserve, OverflowOfCommit, OverflowOfTopUp, ExposureLimitExceeded, Insufficient, Overrun}
 use Rattle.rules.specs.AccountRules.{refuse, tell, write, lose, book, leave, end, account, natural, ensure_rule, top_up_rule, limit_rule, reserve_rule, commit_rule, release_rule}
-use Rattle.rules.proofs.Tests.{by-test}
+use Rattle.rules.proofs.Tests.{by-test, true-false}
 use Rattle.rules.proofs.Delta.{delta-exceeds, remaining-falls}
-use Rattle.numbers.specs.declared.Positive.TheVariants.{ZeroOrLess}
 use Rattle.numbers.specs.Amounts.{positive_of}
+use Rattle.refusals.specs.declared.Refusal.{Refusal}
 use Rattle.moves.specs.declared.Seat.{Seat}
-use Rattle.moves.specs.declared.Tenant.TheVariants.{Present, Missing}
-use Rattle.moves.specs.declared.Exposure.TheVariants.{Within, Exceeded}
-use Rattle.moves.specs.Moves.{account_in, account_of, tenant_of, exposure_of, kept, kept_seat, SeatSound}
+use Rattle.moves.specs.Moves.{account_in, account_of, meaning, kept, kept_seat, SeatSound}
 
 -- what a callee's answer says of the definition that its contract names
 pub told : {A : Type 0} {r t b : A} → r ≡ t → r ≡ b → t ≡ b
 told e p = sym e ∙ p
+
+-- `ok_or(refusal)?` returns that refusal
+pub refused-with : {T : Type 0} (o : Answer T) (e f : Refusal) → Err f ≡ ok_or o e → f ≡ e
+refused-with None e f q = cc
+refused-with (Some x) e f q = cc
 
 -- an amount is a signed 64-bit number, so one that is not negative is at most M
 pub natural-small : (z : ℤ) (n : ℕ) → z ≡ pos n → mag z < 2 ^ 63 → n ≤ M
@@ -43,19 +47,34 @@ module _ (s : Seat) where
   pub with_account : (s.account ≡ 0 → ⊥) → account_of s ≡ some (account_in s)
   with_account h = rw (ne_eqb s.account 0 h)
 
-  pub is-missing : tenant_of s ≡ Missing → s.account ≡ 0
-  is-missing = by-test (λ t. t ≡ Missing → s.account ≡ 0) (eqb s.account 0) (λ t e. eqb-true s.account 0 t) (λ t e. absurd (let z : ◌≡◌ {A = ℕ} 0 1 = cc in omega arith))
+  pub is-missing : has_account (account_of s) ≡ false → s.account ≡ 0
+  is-missing = by-test (λ c. has_account c ≡ false → s.account ≡ 0) (eqb s.account 0) (λ t e. eqb-true s.account 0 t) (λ t e. cc)
 
-  pub is-present : tenant_of s ≡ Present → s.account ≡ 0 → ⊥
-  is-present e h = let z : ◌≡◌ {A = ℕ} 0 1 = (let q : tenant_of s ≡ Missing = rw (eq-eqb s.account 0 h) in cc) in omega arith
+  pub is-present : has_account (account_of s) ≡ true → s.account ≡ 0 → ⊥
+  is-present e h = true-false e (ap has_account (without-account h))
 
   pub amounts-add-up : SeatSound s → (s.account ≡ 0 → ⊥) → AmountsAddUp s
   amounts-add-up sound h = subst AddsUp (with_account h) sound.adds_up
 
--- every seat that a rule writes but a limit's has an account
+-- a seat with an account is sound where its amounts add up
 pub account-sound : (initial remaining reserved committed limit : ℕ) → remaining + reserved + committed ≡ initial → initial ≤ M → limit ≤ M
     → SeatSound (record { initial = initial; remaining = remaining; reserved = reserved; committed = committed; limit = limit; account = 1 })
 account-sound initial remaining reserved committed limit e h k = record { form = unfold kept_seat in refl; adds_up = (e, h); limit = k }
+
+-- a seat of other amounts
+abbrev pub with_amounts : (initial remaining reserved committed : ℕ) → Seat → Seat
+with_amounts initial remaining reserved committed s = record { initial = initial; remaining = remaining; reserved = reserved; committed = committed; limit = s.limit; account = s.account }
+
+module _ (s : Seat) (present : s.account ≡ 0 → ⊥) where
+  -- in its one form a seat with an account has the flag 1
+  account-is : SeatSound s → s.account ≡ 1
+  unfolding kept_seat
+  account-is sound = sym (ap (λ t. t.account) sound.form) ∙ ap (λ c. (kept c s.limit).account) (with_account s present)
+
+  pub amounts-sound : SeatSound s → (initial remaining reserved committed : ℕ) → remaining + reserved + committed ≡ initial → initial ≤ M → SeatSound (with_amounts initial remaining reserved committed s)
+  amounts-sound sound initial remaining reserved committed e h =
+      subst (λ n. SeatSound (record { initial = initial; remaining = remaining; reserved = reserved; committed = committed; limit = s.limit; account = n }))
+      (sym (account-is sound)) (account-sound initial remaining reserved committed s.limit e h sound.limit)
 
 abbrev pub limited : ℕ → Seat → Seat
 limited l s = record { initial = s.initial; remaining = s.remaining; reserved = s.reserved; committed = s.committed; limit = l; account = s.account }
@@ -78,6 +97,9 @@ pub record Asked (s : Seat) (z : ℤ) (n : ℕ) : Type 0 where
   pub positive : n ≡ 0 → ⊥
   pub present : s.account ≡ 0 → ⊥
 
+pub asked-of : (s : Seat) (n : ℕ) → has_account (account_of s) ≡ true → 0 < n → Asked s (pos n) n
+asked-of s n h k = record { amount = refl; positive = λ e. omega arith; present = is-present s h }
+
 -- ── ensure ─────────────────────────────────────────────────────────────────────────────────────
 
 pub ensure-negative : (z : ℤ) (c : Option Account) (l : ℕ) → z ≡ negsuc (mag z) → refuse (NegativeAmount z) ≡ ensure_rule z c l
@@ -95,10 +117,10 @@ module _ (s : Seat) (z : ℤ) (n : ℕ) (amount : z ≡ pos n) where
 
 -- ── top-up ─────────────────────────────────────────────────────────────────────────────────────
 
-pub top-up-of-none : (z : ℤ) (c : Option Account) (l : ℕ) → positive_of z ≡ ZeroOrLess → refuse InvalidAmount ≡ top_up_rule z c l
+pub top-up-of-none : (z : ℤ) (c : Option Account) (l : ℕ) → positive_of z ≡ None → refuse InvalidAmount ≡ top_up_rule z c l
 unfolding top_up_rule
 top-up-of-none (pos zero) c l e = refl
-top-up-of-none (pos (suc n)) c l e = absurd (let z : ◌≡◌ {A = ℕ} 0 1 = cc in omega arith)
+top-up-of-none (pos (suc n)) c l e = cc
 top-up-of-none (negsuc n) c l e = refl
 
 module _ (s : Seat) (z : ℤ) where
@@ -113,10 +135,10 @@ module _ (s : Seat) (z : ℤ) where
   top-up-overflows (suc n) asked above = rw (asked.amount, with_account s asked.present, lt-ltb M (s.initial + suc n) above)
 
   pub top-up-grows : (n : ℕ) → Asked s z n → (initial : ℕ) → initial ≡ s.initial + n → s.initial + n ≤ M
-      → write (z ∷ pos initial ∷ pos (s.remaining + n) ∷ []) (seat (account initial (s.remaining + n) s.reserved s.committed) s.limit) ≡ top_up_rule z (account_of s) s.limit
+      → write (z ∷ pos initial ∷ pos (s.remaining + n) ∷ []) (meaning (with_amounts initial (s.remaining + n) s.reserved s.committed s)) ≡ top_up_rule z (account_of s) s.limit
   unfolding top_up_rule
   top-up-grows zero asked initial e fits = absurd (asked.positive refl)
-  top-up-grows (suc n) asked initial e fits = rw (asked.amount, with_account s asked.present, le-ltb M (s.initial + suc n) fits, e)
+  top-up-grows (suc n) asked initial e fits = rw (asked.amount, ne_eqb s.account 0 asked.present, le-ltb M (s.initial + suc n) fits, e)
 
 -- ── limit ──────────────────────────────────────────────────────────────────────────────────────
 
@@ -131,13 +153,6 @@ module _ (z : ℤ) (c : Option Account) (l : ℕ) where
 
 -- ── reserve ────────────────────────────────────────────────────────────────────────────────────
 
--- what the exposure says of the rule's test
-pub is-exceeded : (l n : ℕ) → exposure_of l n ≡ Exceeded → (ltb 0 l && ltb l n) ≡ true
-is-exceeded l n = by-test (λ e. e ≡ Exceeded → (ltb 0 l && ltb l n) ≡ true) (ltb 0 l && ltb l n) (λ t _. t) (λ _ e. absurd (let z : ◌≡◌ {A = ℕ} 0 1 = cc in omega arith))
-
-pub is_within : (l n : ℕ) → exposure_of l n ≡ Within → (ltb 0 l && ltb l n) ≡ false
-is_within l n = by-test (λ e. e ≡ Within → (ltb 0 l && ltb l n) ≡ false) (ltb 0 l && ltb l n) (λ _ e. absurd (let z : ◌≡◌ {A = ℕ} 0 1 = cc in omega arith)) (λ t _. t)
-
 -- a reserve that passes the checks before the one of the next id, and what reserved would be
 pub record Passes (s : Seat) (z : ℤ) (n reserved : ℕ) : Type 0 where
   pub asked : Asked s z n
@@ -145,11 +160,14 @@ pub record Passes (s : Seat) (z : ℤ) (n reserved : ℕ) : Type 0 where
   pub fits : s.reserved + n ≤ M
   pub within : (ltb 0 s.limit && ltb s.limit reserved) ≡ false
 
+pub passes-of : (s : Seat) (n reserved : ℕ) → has_account (account_of s) ≡ true → 0 < n → reserved ≡ s.reserved + n → reserved ≤ M → (ltb 0 s.limit && ltb s.limit reserved) ≡ false → Passes s (pos n) n reserved
+passes-of s n reserved h k e fits within = record { asked = asked-of s n h k; sum = e; fits = omega arith; within = within }
+
 module _ (last : Bool) where
-  pub reserve-of-none : (z : ℤ) (c : Option Account) (l : ℕ) → positive_of z ≡ ZeroOrLess → refuse (Insufficient (pos 0) z) ≡ reserve_rule z last c l
+  pub reserve-of-none : (z : ℤ) (c : Option Account) (l : ℕ) → positive_of z ≡ None → refuse (Insufficient (pos 0) z) ≡ reserve_rule z last c l
   unfolding reserve_rule
   reserve-of-none (pos zero) c l e = refl
-  reserve-of-none (pos (suc n)) c l e = absurd (let z : ◌≡◌ {A = ℕ} 0 1 = cc in omega arith)
+  reserve-of-none (pos (suc n)) c l e = cc
   reserve-of-none (negsuc n) c l e = refl
 
   module _ (s : Seat) (z : ℤ) where
@@ -186,8 +204,8 @@ module _ (s : Seat) (z : ℤ) (n reserved : ℕ) (passes : Passes s z n reserved
   reserve-insufficient short = rw (reserve-passes false s z n reserved passes, lt-ltb s.remaining n short)
 
   pub reserve-books : n ≤ s.remaining
-      → book (s.remaining - n) (seat (account s.initial (s.remaining - n) reserved s.committed) s.limit) n ≡ reserve_rule z false (account_of s) s.limit
-  reserve-books enough = rw (reserve-passes false s z n reserved passes, le-ltb s.remaining n enough)
+      → book (s.remaining - n) (meaning (with_amounts s.initial (s.remaining - n) reserved s.committed s)) n ≡ reserve_rule z false (account_of s) s.limit
+  reserve-books enough = rw (reserve-passes false s z n reserved passes, le-ltb s.remaining n enough, ne_eqb s.account 0 passes.asked.present)
 
 -- ── commit ─────────────────────────────────────────────────────────────────────────────────────
 
@@ -215,9 +233,9 @@ module _ (s : Seat) (booked : ℕ) (z : ℤ) (n : ℕ) (amount : z ≡ pos n) wh
       commit-overruns exceeds = rw (amount, with_account s present, le-ltb M (s.committed + n) fits, exceeds)
 
       pub commit-ends : (remaining committed : ℕ) → lt_z (pos s.remaining) (pos n -ℤ pos booked) ≡ false → remaining ≡ natural (pos s.remaining -ℤ (pos n -ℤ pos booked)) → committed ≡ s.committed + n
-          → end (pos remaining ∷ z ∷ []) (seat (account s.initial remaining (s.reserved - booked) committed) s.limit) ≡ commit_rule z (some booked) (account_of s) s.limit
+          → end (pos remaining ∷ z ∷ []) (meaning (with_amounts s.initial remaining (s.reserved - booked) committed s)) ≡ commit_rule z (some booked) (account_of s) s.limit
       unfolding commit_rule
-      commit-ends remaining committed within e f = rw (amount, with_account s present, le-ltb M (s.committed + n) fits, within, e, f)
+      commit-ends remaining committed within e f = rw (amount, ne_eqb s.account 0 present, le-ltb M (s.committed + n) fits, within, e, f)
 
 -- what a commit leaves, with what it spends, is what remained and was booked
 pub commit-leaves : (remaining booked n : ℕ) → lt_z (pos remaining) (pos n -ℤ pos booked) ≡ false → natural (pos remaining -ℤ (pos n -ℤ pos booked)) + n ≡ remaining + booked
@@ -233,6 +251,6 @@ module _ (s : Seat) (booked : ℕ) where
   release-missing h = rw (without-account s h)
 
   pub release-returns : (s.account ≡ 0 → ⊥)
-      → end (pos (s.remaining + booked) ∷ pos booked ∷ []) (seat (account s.initial (s.remaining + booked) (s.reserved - booked) s.committed) s.limit) ≡ release_rule (some booked) (account_of s) s.limit
+      → end (pos (s.remaining + booked) ∷ pos booked ∷ []) (meaning (with_amounts s.initial (s.remaining + booked) (s.reserved - booked) s.committed s)) ≡ release_rule (some booked) (account_of s) s.limit
   unfolding release_rule
-  release-returns h = rw (with_account s h)
+  release-returns h = rw (ne_eqb s.account 0 h)

@@ -51,16 +51,11 @@ pub fn top_up(seat: Seat, added: u64) -> Result<Seat, Refusal>
     requires { SeatSound seat × (has_account (account_of seat) ≡ true) × (0 < added) }
     ensures { (topping_up_move (pos added) result ≡ top_up_rule (pos added) (account_of seat) seat.limit) × IfOk result SeatSound }
 {
-    let Some(initial) = numbers::plus(seat.initial, added) else {
-        return Err(Refusal::OverflowOfTopUp);
-    };
+    let initial = numbers::plus(seat.initial, added).ok_or(Refusal::OverflowOfTopUp)?;
     Ok(Seat {
         initial,
         remaining: seat.remaining + added,
-        reserved: seat.reserved,
-        committed: seat.committed,
-        limit: seat.limit,
-        account: 1,
+        ..seat
     })
 }
 
@@ -69,17 +64,8 @@ pub fn limit(seat: Seat, amount: Microcents) -> Result<Seat, Refusal>
     requires { SeatSound seat }
     ensures { (limiting_move result ≡ limit_rule amount.0 (account_of seat) seat.limit) × IfOk result SeatSound }
 {
-    let Some(ceiling) = numbers::natural_of(amount) else {
-        return Err(Refusal::NegativeAmount(amount));
-    };
-    Ok(Seat {
-        initial: seat.initial,
-        remaining: seat.remaining,
-        reserved: seat.reserved,
-        committed: seat.committed,
-        limit: ceiling,
-        account: seat.account,
-    })
+    let limit = numbers::natural_of(amount).ok_or(Refusal::NegativeAmount(amount))?;
+    Ok(Seat { limit, ..seat })
 }
 
 // A limit that is set, and that a sum of reserved amounts is above.
@@ -97,18 +83,12 @@ pub fn reserve(seat: Seat, asked: u64, reserved: u64) -> Result<Seat, Refusal>
     ensures { (reserving_move asked result ≡ reserve_rule (pos asked) false (account_of seat) seat.limit) × IfOk result SeatSound }
 {
     let Some(remaining) = seat.remaining.checked_sub(asked) else {
-        return Err(Refusal::Insufficient(
-            numbers::amount(seat.remaining),
-            numbers::amount(asked),
-        ));
+        return Err(Refusal::Insufficient(numbers::amount(seat.remaining), numbers::amount(asked)));
     };
     Ok(Seat {
-        initial: seat.initial,
         remaining,
         reserved,
-        committed: seat.committed,
-        limit: seat.limit,
-        account: 1,
+        ..seat
     })
 }
 
@@ -123,12 +103,10 @@ pub fn commit(seat: Seat, booked: Held, spent: u64, committed: u64) -> Result<Se
         return Err(Refusal::Overrun(numbers::amount(seat.remaining)));
     };
     Ok(Seat {
-        initial: seat.initial,
         remaining,
         reserved: seat.reserved - booked.0,
         committed,
-        limit: seat.limit,
-        account: 1,
+        ..seat
     })
 }
 
@@ -141,11 +119,8 @@ pub fn release(seat: Seat, booked: Held) -> Result<Seat, Refusal>
         return Err(Refusal::MissingTenant);
     }
     Ok(Seat {
-        initial: seat.initial,
         remaining: seat.remaining + booked.0,
         reserved: seat.reserved - booked.0,
-        committed: seat.committed,
-        limit: seat.limit,
-        account: 1,
+        ..seat
     })
 }

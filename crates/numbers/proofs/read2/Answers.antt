@@ -1,16 +1,12 @@
--- `numbers::read2` meets its contract: the bytes shifted and joined are their number: `read_number`, a law over any size.
+-- `numbers::read2` meets its contract: as `read8`, at two bytes.
 use native.Mathlib.Omega.{arith}
-use Rattle.numbers.proofs.Bytes.{all-bytes}
-use Rattle.numbers.proofs.LittleEndian.{read_number}
+use mathlib.Core.Path.{◌∙◌}
+use Rattle.std.proofs.lemmas.Nat.{le_bytes_2}
+use Rattle.numbers.proofs.LittleEndian.{read}
 use Rattle.numbers.proofs.read2.Goals as goal
 
 pub returns : goal.returns
 returns c =
     let bytes = c.args.bytes.now in
-    read_number 1 bytes (all-bytes bytes c.shared_slice_known-2-1.given) c.requires (omega arith)
-
-pub overflow_cast-result : goal.overflow_cast-result
-overflow_cast-result c = omega (arith, c.shared_slice_known-1.given 0)
-
-pub overflow_cast-result-2 : goal.overflow_cast-result-2
-overflow_cast-result-2 c = omega (arith, c.shared_slice_known-2-1.given 1)
+    let n = c.from_le_bytes.result in
+    c.into.ensures ∙ read 2 n bytes (omega arith) (le_bytes_2 bytes n c.requires (λ i. (c.type_inv.bytes i).fits) (cc))

@@ -1,11 +1,8 @@
--- `numbers::write2` meets its contract: each byte stored is the remainder of a quotient: `write-number`, a law over any size.
-use native.Mathlib.Omega.{arith}
-use lib.ListN.{length-set}
-use Rattle.numbers.proofs.LittleEndian.{write-number}
+-- `numbers::write2` meets its contract: the first two of the bytes that std's `to_le_bytes` makes are `little_bytes 2` (LittleEndian).
+use mathlib.Core.Path.{◌∙◌, ap}
+use lib.ListN.{take}
+use Rattle.numbers.proofs.LittleEndian.{written}
 use Rattle.numbers.proofs.write2.Goals as goal
 
-pub bounds-bytes-1 : goal.bounds-bytes-1
-bounds-bytes-1 c = simp length-set (omega arith)
-
 pub returns : goal.returns
-returns c = write-number 1 c.args.bytes.now c.args.number c.requires
+returns c = c.copy_from_slice.ensures.after ∙ ap (take 2) c.to_le_bytes.ensures ∙ written 2 c.args.number
