@@ -120,8 +120,7 @@ fn name_part(room: &[u8], i: usize, part: usize) -> &[u8]
     ensures width { length result.now ≡ 8 }
 {
     let from = records::FIRST_NAME_BYTES + records::PLACE_SIZE * i + 8 * part;
-    let end = from + 8;
-    &room[from..end]
+    &room[from..from + 8]
 }
 
 // Whether eight bytes, as a number with the lowest first, are zero from one of them on.
