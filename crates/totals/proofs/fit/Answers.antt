@@ -7,7 +7,7 @@ use mir.Val.{of_z, to_z}
 use mir.Facts.{to_z_pos}
 use Rattle.numbers.proofs.Amounts.{held-is}
 use Rattle.totals.specs.declared.Total.{Total}
-use Rattle.totals.specs.declared.Fitted.TheVariants.{Fits}
+use Rattle.std.specs.Prelude.{Some}
 use Rattle.totals.specs.Totals.{value_of, fitted}
 use Rattle.totals.proofs.Carrying.{words}
 use Rattle.totals.proofs.Fitting.{natural-fits, natural-outside, negative-outside, negative_fits, far-outside}
@@ -30,7 +30,7 @@ module _ (c : After-struct_told-1) where
 
 pub returns-then-low-lt-HALF : goal.returns-then-low-lt-HALF
 returns-then-low-lt-HALF c =
-    ap (λ z. Fits (record { 0 = z })) (to_z_pos w64 c.if-low-lt-HALF.true) ∙ sym (by_bits c.before.before 0 c.if-high-eq0.true ∙ natural-fits (total c.before.before).low c.if-low-lt-HALF.true)
+    ap (λ z. Some (record { 0 = z })) (to_z_pos w64 c.if-low-lt-HALF.true) ∙ sym (by_bits c.before.before 0 c.if-high-eq0.true ∙ natural-fits (total c.before.before).low c.if-low-lt-HALF.true)
 
 pub returns-then-high-eq0 : goal.returns-then-high-eq0
 returns-then-high-eq0 c = sym (by_bits c.before.before 0 c.if-high-eq0.true ∙ natural-outside (total c.before.before).low (omega arith))
@@ -40,7 +40,7 @@ returns-then-low-lt-HALF-2 c = sym (by_bits c.before.before.before (2 ^ 64 - 1) 
 
 pub returns-then-high : goal.returns-then-high
 returns-then-high c =
-    ap (λ z. Fits (record { 0 = z })) c.signed.ensures ∙ sym (by_bits c.before.before.before.before (2 ^ 64 - 1) c.if-high.true ∙ negative_fits (total c.before.before.before.before).low (omega arith) (low_small c.before.before.before.before))
+    ap (λ z. Some (record { 0 = z })) c.signed.ensures ∙ sym (by_bits c.before.before.before.before (2 ^ 64 - 1) c.if-high.true ∙ negative_fits (total c.before.before.before.before).low (omega arith) (low_small c.before.before.before.before))
 
 pub returns : goal.returns
 returns c =
