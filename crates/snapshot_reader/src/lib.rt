@@ -49,19 +49,18 @@ pub fn check(bytes: &[u8]) -> Result<(), Refusal>
     if bytes.len() < rules::SNAPSHOT_HEADER {
         return Err(Refusal::BadFrame);
     }
-    let mut left = big_endian::read2(&bytes[rules::COUNT_START..rules::SNAPSHOT_HEADER]);
-    if MOST_ROWS < left {
+    let count = big_endian::read2(&bytes[rules::COUNT_START..rules::SNAPSHOT_HEADER]);
+    if MOST_ROWS < count {
         return Err(Refusal::BadFrame);
     }
     let mut at = rules::SNAPSHOT_HEADER;
     let mut long = false;
-    while 0 < left {
+    for _ in 0..count {
         let Some(end) = row_end(bytes, at) else {
             return Err(Refusal::BadFrame);
         };
         long = long | (LONGEST_NAME < bytes[at]);
         at = end;
-        left -= 1;
     }
     if at < bytes.len() {
         return Err(Refusal::BadFrame);
@@ -140,12 +139,5 @@ pub fn has_long_name(bytes: &[u8]) -> bool
     requires { IsSnapshot bytes.now }
     ensures { OfSnapshot bytes.now (λ s. result ≡ has_long_name s.rows) }
 {
-    let mut at = rules::SNAPSHOT_HEADER;
-    while at < bytes.len() {
-        if LONGEST_NAME < bytes[at] {
-            return true;
-        }
-        at = name_end(bytes, at) + rules::ROW_AMOUNTS;
-    }
-    false
+    check(bytes).is_err()
 }
