@@ -120,15 +120,13 @@ pub fn read_row(bytes: &[u8], at: usize) -> StandingRow
     ensures { OfRow bytes.now at (λ row later. ReadsRow bytes.now at row later result) }
 {
     let name_end = name_end(bytes, at);
-    let second = name_end + 8;
-    let third = name_end + 16;
-    let fourth = name_end + 24;
     let end = name_end + rules::ROW_AMOUNTS;
+    let amounts = &bytes[name_end..end];
     StandingRow {
-        initial: big_endian::read_amount(&bytes[name_end..second]),
-        remaining: big_endian::read_amount(&bytes[second..third]),
-        reserved: big_endian::read_amount(&bytes[third..fourth]),
-        committed: big_endian::read_amount(&bytes[fourth..end]),
+        initial: big_endian::read_amount(&amounts[0..8]),
+        remaining: big_endian::read_amount(&amounts[8..16]),
+        reserved: big_endian::read_amount(&amounts[16..24]),
+        committed: big_endian::read_amount(&amounts[24..32]),
         name_end,
         end,
     }
