@@ -29,12 +29,9 @@ fn row_end(bytes: &[u8], at: usize) -> Option<usize>
     requires { at ≤ length bytes.now }
     ensures { RowEnds bytes.now at (read_row (drop at bytes.now)) result }
 {
-    let left = bytes.len() - at;
-    if left == 0 {
-        return None;
-    }
-    let size = rules::SHORTEST_ROW + bytes[at] as usize;
-    if left < size {
+    let name_size = *bytes.get(at)? as usize;
+    let size = rules::SHORTEST_ROW + name_size;
+    if bytes.len() - at < size {
         return None;
     }
     Some(at + size)
