@@ -1,6 +1,6 @@
 -- A pass over the rows of bytes, row by row, decides what they come to: whether they are a snapshot, and whether a name of it is long. Each row passed hands
 -- that on to the rows left, and a flag tells of the names passed.
-use mathlib.Core.Path.{◌≡◌, refl, sym, ◌∙◌, ap}
+use mathlib.Core.Path.{◌≡◌, refl, sym, ◌∙◌, ap, subst}
 use mathlib.Core.Bool.{Bool, true, false, cond, ◌||◌, or_assoc, or-false}
 use mathlib.Core.List.{List, ◌∷◌}
 use mathlib.Core.Option.{Option, none, some}
@@ -9,7 +9,7 @@ use native.Mathlib.Omega.{arith}
 use borrow.Author.Tests.{eq-eqb, ne_eqb}
 use lib.Dec.{eqb, ltb}
 use lib.ListN.{length, get_or, drop, length-drop}
-use Rattle.std.specs.Prelude.{Some, None, Result, Ok, Err}
+use Rattle.std.specs.Prelude.{Option as Found, Some, None, Result, Ok, Err}
 use Rattle.rules.specs.Lists.{any}
 use Rattle.rules.specs.RoomAndSoundLedger.{longest_name}
 use Rattle.rules.specs.AccountRules.{is_too_long}
@@ -74,9 +74,9 @@ module _ {bs : List ℕ} {long : Bool} {at left : ℕ} (pass : Undecided bs long
     next : checked_as (snapshot_of_bytes bs) ≡ checked_rows long (read_rows (suc later) (drop at bs))
     next = pass.same ∙ ap (λ n. checked_rows long (read_rows n (drop at bs))) (omega arith)
 
-    pub passed : (end : ℕ) → RowEnds bs at (read_row (drop at bs)) (Some end) → Undecided bs (long || ltb longest_name (get_or bs at 0)) end later
+    pub passed : (end : ℕ) → {r : Found ℕ} → RowEnds bs at (read_row (drop at bs)) r → r ≡ Some end → Undecided bs (long || ltb longest_name (get_or bs at 0)) end later
     unfolding read_rows
-    passed end = by-option (λ o. checked_as (snapshot_of_bytes bs) ≡ checked_rows long (go_on o (later_rows later)) → RowEnds bs at o (Some end) → Undecided bs (long || ltb longest_name (get_or bs at 0)) end later)
+    passed end {r} ends is = by-option (λ o. checked_as (snapshot_of_bytes bs) ≡ checked_rows long (go_on o (later_rows later)) → RowEnds bs at o (Some end) → Undecided bs (long || ltb longest_name (get_or bs at 0)) end later)
         (read_row (drop at bs))
         (λ _ _ e. cc)
         (λ r _ same e. record {
@@ -85,12 +85,12 @@ module _ {bs : List ℕ} {long : Bool} {at left : ℕ} (pass : Undecided bs long
               ∙ ap (λ n. checked_rows (long || ltb longest_name n) (read_rows later r.rest)) (sym e.size)
               ∙ ap (λ rest. checked_rows (long || ltb longest_name (get_or bs at 0)) (read_rows later rest)) (sym e.rest);
         })
-        next
+        next (subst (RowEnds bs at (read_row (drop at bs))) is ends)
 
-    pub broken : RowEnds bs at (read_row (drop at bs)) None → Err BadFrame ≡ checked_as (snapshot_of_bytes bs)
+    pub broken : {r : Found ℕ} → RowEnds bs at (read_row (drop at bs)) r → r ≡ None → Err BadFrame ≡ checked_as (snapshot_of_bytes bs)
     unfolding read_rows
-    broken = by-option (λ o. checked_as (snapshot_of_bytes bs) ≡ checked_rows long (go_on o (later_rows later)) → RowEnds bs at o None → Err BadFrame ≡ checked_as (snapshot_of_bytes bs)) (read_row (drop at bs))
-        (λ _ same _. sym same) (λ _ _ _ e. absurd e) next
+    broken ends is = by-option (λ o. checked_as (snapshot_of_bytes bs) ≡ checked_rows long (go_on o (later_rows later)) → RowEnds bs at o None → Err BadFrame ≡ checked_as (snapshot_of_bytes bs)) (read_row (drop at bs))
+        (λ _ same _. sym same) (λ _ _ _ e. absurd e) next (subst (RowEnds bs at (read_row (drop at bs))) is ends)
 
   module _ (none_left : left ≡ 0) where
     last : checked_as (snapshot_of_bytes bs) ≡ checked_rows long (read_rows 0 (drop at bs))

@@ -38,8 +38,8 @@ fn row_end(bytes: &[u8], at: usize) -> Option<usize>
 }
 
 // Whether bytes are a snapshot: every row that the count promises is there, nothing stands behind them, and they are no more than a ledger has names; and
-// whether no name is longer than a place could hold: 23 comes before 19 (document 01, "Frames"). One pass over the rows, which looks at the length of each name alone. A long name does not end it: bytes
-// that are no snapshot have no names.
+// whether no name is longer than a place could hold: 23 comes before 19 (document 01, "Frames"). One pass over the rows, which looks at the length of each
+// name alone. A long name does not end it: bytes that are no snapshot have no names.
 pub fn check(bytes: &[u8]) -> Result<(), Refusal>
     ensures { result ≡ checked_as (snapshot_of_bytes bytes.now) }
 {
@@ -53,10 +53,8 @@ pub fn check(bytes: &[u8]) -> Result<(), Refusal>
     let mut at = rules::SNAPSHOT_HEADER;
     let mut long = false;
     for _ in 0..count {
-        let Some(end) = row_end(bytes, at) else {
-            return Err(Refusal::BadFrame);
-        };
-        long = long | (LONGEST_NAME < bytes[at]);
+        let end = row_end(bytes, at).ok_or(Refusal::BadFrame)?;
+        long |= LONGEST_NAME < bytes[at];
         at = end;
     }
     if at < bytes.len() {

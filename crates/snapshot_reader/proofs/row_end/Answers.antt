@@ -19,11 +19,11 @@ module _ (bs : List ℕ) (at : ℕ) (h : at ≤ length bs) where
   long : size_at bs at ≤ length bs - at → (size : ℕ) → size ≡ size_at bs at → RowEnds bs at (read_row (drop at bs)) (Some (at + size))
   long l size is = subst (λ n. RowEnds bs at (read_row (drop at bs)) (Some (at + n))) (sym is)
       (subst (λ o. RowEnds bs at o (Some (at + size_at bs at))) (sym (row_at bs at h l)) (record {
-      further = omega arith;
-      within = omega arith;
-      size = sym (name-size (drop at bs) (omega (arith, front-byte at bs, length-drop at bs)) ∙ front-byte at bs);
-      rest = refl;
-  }))
+        further = omega arith;
+        within = omega arith;
+        size = sym (name-size (drop at bs) (omega (arith, front-byte at bs, length-drop at bs)) ∙ front-byte at bs);
+        rest = refl;
+      }))
 
 pub returns-in_err-name_size : goal.returns-in_err-name_size
 returns-in_err-name_size c = rw c.from_residual.ensures (short c.args.bytes.now c.args.at c.requires (omega (arith, c.in_err-name_size.ensures.lookup)))
