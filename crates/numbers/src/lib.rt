@@ -2,7 +2,7 @@
 
 #![tactic(auto)]
 
-ghost use Rattle.std.specs.Prelude.{◌≤◌, ◌≡◌, ◌++◌, pos, ◌-ℤ◌, length, drop};
+ghost use Rattle.std.specs.Prelude.{◌<◌, ◌≤◌, ◌≡◌, ◌++◌, pos, ◌-ℤ◌, length, drop};
 ghost use Rattle.rules.specs.RoomAndSoundLedger.{M};
 ghost use Rattle.rules.specs.AccountRules.{natural};
 ghost use Rattle.numbers.specs.LittleEndian.{little_number, little_bytes};
@@ -20,50 +20,44 @@ pub struct Microcents(pub i64);
 #[derive(Clone, Copy)]
 pub struct Held(pub u64);
 
-// Bytes are joined by `|` and shifts, and parted by division: both compile to one load or store of the whole number.
+// A part of bytes as an array, for std's readings of numbers: one load, and no copy is left of it.
+pub fn array_of<const N: usize>(bytes: &[u8]) -> [u8; N]
+    requires { (0 < N) × (length bytes.now ≡ N) }
+    ensures { result ≡ bytes.now }
+{
+    bytes.as_chunks().0[0]
+}
+
 pub fn read8(bytes: &[u8]) -> u64
     requires { length bytes.now ≡ 8 }
     ensures { result ≡ little_number bytes.now }
 {
-    (bytes[0] as u64)
-        | ((bytes[1] as u64) << 8)
-        | ((bytes[2] as u64) << 16)
-        | ((bytes[3] as u64) << 24)
-        | ((bytes[4] as u64) << 32)
-        | ((bytes[5] as u64) << 40)
-        | ((bytes[6] as u64) << 48)
-        | ((bytes[7] as u64) << 56)
+    u64::from_le_bytes(array_of(bytes))
 }
 
 pub fn write8(bytes: &mut [u8], number: u64)
     requires { length bytes.old ≡ 8 }
     ensures { bytes.new ≡ little_bytes 8 number }
 {
-    bytes[0] = (number % 256) as u8;
-    bytes[1] = (number / 0x100 % 256) as u8;
-    bytes[2] = (number / 0x1_0000 % 256) as u8;
-    bytes[3] = (number / 0x100_0000 % 256) as u8;
-    bytes[4] = (number / 0x1_0000_0000 % 256) as u8;
-    bytes[5] = (number / 0x100_0000_0000 % 256) as u8;
-    bytes[6] = (number / 0x1_0000_0000_0000 % 256) as u8;
-    bytes[7] = (number / 0x100_0000_0000_0000 % 256) as u8;
+    bytes.copy_from_slice(&number.to_le_bytes());
 }
 
 pub fn read2(bytes: &[u8]) -> u64
     requires { length bytes.now ≡ 2 }
     ensures { result ≡ little_number bytes.now }
 {
-    (bytes[0] as u64) | ((bytes[1] as u64) << 8)
+    u16::from_le_bytes(array_of(bytes)).into()
 }
 
+// Of a number that two bytes do not hold, the lower two are written.
 pub fn write2(bytes: &mut [u8], number: u64)
     requires { length bytes.old ≡ 2 }
     ensures { bytes.new ≡ little_bytes 2 number }
 {
-    bytes[0] = (number % 256) as u8;
-    bytes[1] = (number / 0x100 % 256) as u8;
+    bytes.copy_from_slice(&number.to_le_bytes()[..2]);
 }
 
+#[tactic(auto, unfolding(crate::specs::LittleEndian::little_number))]
 pub fn read1(bytes: &[u8]) -> u8
     requires { length bytes.now ≡ 1 }
     ensures { result ≡ little_number bytes.now }
@@ -71,6 +65,7 @@ pub fn read1(bytes: &[u8]) -> u8
     bytes[0]
 }
 
+#[tactic(auto, unfolding(crate::specs::LittleEndian::little_bytes))]
 pub fn write1(bytes: &mut [u8], number: u8)
     requires { length bytes.old ≡ 1 }
     ensures { bytes.new ≡ little_bytes 1 number }
@@ -83,14 +78,11 @@ pub fn copy(bytes: &[u8], output: &mut [u8])
     requires { length bytes.now ≤ length output.old }
     ensures { output.new ≡ bytes.now ++ drop (length bytes.now) output.old }
 {
-    let mut i = 0;
-    while i < bytes.len() {
-        output[i] = bytes[i];
-        i += 1;
-    }
+    output[..bytes.len()].copy_from_slice(bytes);
 }
 
 // A sum that may not be above M.
+#[tactic(auto, unfolding(rules::specs::RoomAndSoundLedger::M))]
 pub fn plus(a: u64, b: u64) -> Option<u64>
     ensures { result ≡ sum_of a b }
 {
@@ -111,6 +103,7 @@ pub fn positive_of(m: Microcents) -> Option<u64>
     natural_of(m).filter(|x| *x != 0)
 }
 
+#[tactic(auto, unfolding(rules::specs::RoomAndSoundLedger::M))]
 pub fn amount(x: u64) -> Microcents
     requires { x ≤ M }
     ensures { result.0 ≡ pos x }
@@ -119,6 +112,7 @@ pub fn amount(x: u64) -> Microcents
 }
 
 // "commit's delta is a signed difference"
+#[tactic(auto, unfolding(rules::specs::RoomAndSoundLedger::M))]
 pub fn delta(actual: u64, reserved: u64) -> Microcents
     requires { (actual ≤ M) × (reserved ≤ M) }
     ensures { result.0 ≡ pos actual -ℤ pos reserved }
@@ -127,14 +121,15 @@ pub fn delta(actual: u64, reserved: u64) -> Microcents
 }
 
 // Document 01, Account rules, commit: a delta past remaining is an overrun, any other is taken off. One that returns money is negated and added.
+#[tactic(auto, unfolding(rules::specs::RoomAndSoundLedger::M))]
 pub fn less_delta(remaining: u64, delta: Microcents) -> Option<u64>
     requires { natural (pos remaining -ℤ delta.0) ≤ M }
     ensures { result ≡ remainder_of remaining delta.0 }
 {
     let d = delta.0;
     if d < 0 {
-        let returned = (-d) as u64;
-        return Some(remaining + returned);
+        Some(remaining + (-d) as u64)
+    } else {
+        remaining.checked_sub(d as u64)
     }
-    remaining.checked_sub(d as u64)
 }
