@@ -17,16 +17,9 @@ use Rattle.names.specs.Names.{spelled, stored}
 use Rattle.names.proofs.Storing.{spelled-stored}
 use Rattle.refusals.specs.declared.tenant_name.TenantName.{TenantName}
 use Rattle.validation.specs.declared.RowRefusal.{RowRefusal}
-use Rattle.validation.specs.Judgement.{of_row, row_refusal, seen_in}
+use Rattle.validation.specs.Judgement.{Pass, of_row, row_refusal, seen_in}
 use Rattle.validation.proofs.Seen.{seen_more}
 use Rattle.validation.proofs.Standing.{names_in}
-
--- what is said of a row after those before it, and of all rows to come
-pub record Pass : Type 0 where
-  pub row : (earlier : List Row) → Row → Option Refusal
-  pub rest : (earlier later : List Row) → Option Refusal
-  pub step : (earlier : List Row) (r : Row) (later : List Row) → rest earlier (r ∷ later) ≡ and_then (row earlier r) (rest (earlier ++ r ∷ []) later)
-  pub end : (earlier : List Row) → rest earlier [] ≡ none
 
 pub conserved-step : (r : Row) (later : List Row) → conservation (r ∷ later) ≡ and_then (row_conservation r) (conservation later)
 unfolding conservation

@@ -10,7 +10,7 @@ ghost use Rattle.rules.specs.SnapshotsMigrationCertificates.{row_conservation, c
 ghost use Rattle.names.specs.Names.{spelled, stored};
 ghost use Rattle.refusals.specs.Answers.{refusal_of, refusal_in, answer_of, carries_nothing};
 ghost use Rattle.snapshot_reader.specs.Standing.{IsSnapshot, ShortNames, RowOf, OfSnapshot};
-ghost use Rattle.validation.specs.Judgement.{of_row, row_refusal, row_with, seen_in};
+ghost use Rattle.validation.specs.Judgement.{Pass, Judges, of_row, row_refusal, row_with, seen_in};
 
 use numbers::Microcents;
 use refusals::{Refusal, TenantName};
@@ -90,19 +90,28 @@ fn row_conservation(bytes: &[u8], at: usize) -> Result<(), RowRefusal>
     balance_of(row.initial, row.remaining, row.reserved, row.committed)
 }
 
-// The first row that does not balance is answered. One pass over the rows.
-pub fn conservation(bytes: &[u8]) -> Result<(), Refusal>
-    requires { ShortNames bytes.now }
-    ensures { OfSnapshot bytes.now (λ s. refusal_in result ≡ conservation s.rows) }
+// The first row that a check refuses is answered, with its name. One pass over the rows.
+fn each_row<F: Fn(usize) -> Result<(), RowRefusal>>(bytes: &[u8], check: F) -> Result<(), Refusal>
+    ghost pass: { Pass }
+    requires { ShortNames bytes.now × Judges pass bytes.now (F.pre check) (F.post check) }
+    ensures { OfSnapshot bytes.now (λ s. refusal_in result ≡ pass.rest [] s.rows) }
 {
     let mut at = rules::SNAPSHOT_HEADER;
     while at < bytes.len() {
-        if let Err(refusal) = row_conservation(bytes, at) {
+        if let Err(refusal) = check(at) {
             return Err(refusal.with_name(tenant_at(bytes, at)));
         }
         at = snapshot_reader::name_end(bytes, at) + rules::ROW_AMOUNTS;
     }
     Ok(())
+}
+
+// The first row that does not balance is answered. One pass over the rows.
+pub fn conservation(bytes: &[u8]) -> Result<(), Refusal>
+    requires { ShortNames bytes.now }
+    ensures { OfSnapshot bytes.now (λ s. refusal_in result ≡ conservation s.rows) }
+{
+    each_row(bytes, |at| row_conservation(bytes, at))
 }
 
 // 11: the row's name against that of each row before it.
@@ -157,14 +166,7 @@ fn rows_validation(bytes: &[u8]) -> Result<(), Refusal>
     requires { ShortNames bytes.now }
     ensures { OfSnapshot bytes.now (λ s. refusal_in result ≡ rows_validation [] s.rows) }
 {
-    let mut at = rules::SNAPSHOT_HEADER;
-    while at < bytes.len() {
-        if let Err(refusal) = row_validation(bytes, at) {
-            return Err(refusal.with_name(tenant_at(bytes, at)));
-        }
-        at = snapshot_reader::name_end(bytes, at) + rules::ROW_AMOUNTS;
-    }
-    Ok(())
+    each_row(bytes, |at| row_validation(bytes, at))
 }
 
 // The ledger validation: nothing may be live (10), the rows are checked one by one, and then they must balance. Two passes over the rows.
