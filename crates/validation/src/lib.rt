@@ -55,18 +55,14 @@ fn balance_of(
 {
     let held = totals::plus(totals::plus(totals::nothing(), remaining), reserved);
     let sum = totals::plus(held, committed);
-    let Some(exact) = totals::fit(sum) else {
-        return Err(RowRefusal::AggregateOverflow);
-    };
+    let exact = totals::fit(sum).ok_or(RowRefusal::AggregateOverflow)?;
     if exact.0 == initial.0 {
         if remaining.0 < 0 {
             return Err(RowRefusal::ConservationViolation(remaining));
         }
         return Ok(());
     }
-    let Some(delta) = totals::fit(totals::minus(sum, initial)) else {
-        return Err(RowRefusal::AggregateOverflow);
-    };
+    let delta = totals::fit(totals::minus(sum, initial)).ok_or(RowRefusal::AggregateOverflow)?;
     Err(RowRefusal::ConservationViolation(delta))
 }
 
