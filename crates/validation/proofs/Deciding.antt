@@ -2,18 +2,16 @@
 use mathlib.Core.Path.{◌≡◌, refl, sym, ap, ◌∙◌}
 use mathlib.Core.Logic.{◌≢◌}
 use mathlib.Core.Bool.{Bool, true, false}
+use mathlib.Core.List.{[]}
 use mathlib.Core.Option.{Option, some}
-use Prim.Native.Nat.{◌^◌, ◌<◌}
 use lib.IntN.{ℤ}
-use lib.Signed.{mag}
 use Rattle.std.specs.Prelude.{Result, Ok, Err}
-use Rattle.rules.specs.AnswerNumbers.{Refusal}
-use Rattle.rules.specs.SnapshotsMigrationCertificates.{◌gives◌else◌, and_then, is_negative, equals}
+use Rattle.rules.specs.AnswerNumbers.{Refusal, done}
+use Rattle.rules.specs.SnapshotsMigrationCertificates.{◌gives◌else◌, and_then, reply_or, equals}
 use Rattle.rules.proofs.Tests.{by_bool}
 use Rattle.rules.proofs.Checks.{equals-true}
-use Rattle.numbers.proofs.Amounts.{held, held-is}
 use Rattle.refusals.specs.declared.Refusal.{Refusal as Told}
-use Rattle.refusals.specs.Answers.{refusal_of, refusal_in}
+use Rattle.refusals.specs.Answers.{refusal_of, refusal_in, answer_of, carries_nothing}
 
 module _ (fails : Bool) (refusal : Refusal) (later : Option Refusal) where
   pub decides : fails ≡ true → (fails gives refusal else later) ≡ some refusal
@@ -35,11 +33,13 @@ module _ {A : Type 0} {r : Result A Told} (later : Option Refusal) where
   unfolding and_then
   passes_on is = ap (λ o. and_then (refusal_in o) later) is
 
+-- an answer that carries nothing, as the rules give it
+pub answered : {A : Type 0} (r : Result A Told) → answer_of carries_nothing r ≡ reply_or (refusal_in r) (done [])
+unfolding reply_or
+answered (Ok x) = refl
+answered (Err e) = refl
+
 -- ── amounts ────────────────────────────────────────────────────────────────────────────────────
 
 pub equals-other : (y z : ℤ) → y ≢ z → equals y z ≡ false
 equals-other y z other = by_bool (λ b. equals y z ≡ b → b ≡ false) (equals y z) (λ _ e. absurd (other (equals-true y z e))) (λ _ e. refl) refl
-
--- the sign of an amount, which code asks of its bits
-pub sign-is : {z y : ℤ} (sign : Bool) → z ≡ y → mag z < 2 ^ 63 → is_negative (held z) ≡ sign → is_negative y ≡ sign
-sign-is {z} sign e small told = ap is_negative (sym e ∙ sym (held-is z small)) ∙ told
