@@ -7,17 +7,12 @@ use mathlib.Core.Option.{some}
 use Prim.Native.Nat.{ℕ}
 use Rattle.rules.specs.SnapshotsMigrationCertificates.{Row, Snapshot, snapshot_of_bytes, has_long_name}
 use Rattle.snapshot_reader.specs.declared.StandingRow.{StandingRow}
-use Rattle.snapshot_reader.specs.Standing.{ShortNames, RowOf, EndsName, ReadsRow}
-use Rattle.snapshot_reader.proofs.Rows.{Ends}
+use Rattle.snapshot_reader.specs.Standing.{ShortNames, ReadsRow}
 use Rattle.validation.specs.Judgement.{row_with}
 
 module _ {bs : List ℕ} {at : ℕ} {row : Row} {later : List Row} where
   pub read-is-row : {read : StandingRow} → ReadsRow bs at row later read → row_with row.name read.initial.0 read.remaining.0 read.reserved.0 read.committed.0 ≡ row
   read-is-row is i = row_with row.name (is.initial i) (is.remaining i) (is.reserved i) (is.committed i)
-
--- where its name ends, of which the function that finds it says so of any row
-pub end-there : {bs : List ℕ} {at end : ℕ} (here : RowOf bs at) → Ends bs at end → EndsName bs at here.row here.later end
-end-there here ends = ends here.row here.later here.from
 
 -- ── a pass over all rows ───────────────────────────────────────────────────────────────────────
 

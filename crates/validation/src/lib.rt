@@ -9,7 +9,7 @@ ghost use Rattle.rules.specs.RoomAndSoundLedger.{same};
 ghost use Rattle.rules.specs.SnapshotsMigrationCertificates.{row_conservation, conservation, row_validation, rows_validation, validation, status};
 ghost use Rattle.names.specs.Names.{spelled, stored};
 ghost use Rattle.refusals.specs.Answers.{refusal_of, refusal_in, answer_of, carries_nothing};
-ghost use Rattle.snapshot_reader.specs.Standing.{IsSnapshot, ShortNames, RowOf, OfSnapshot};
+ghost use Rattle.snapshot_reader.specs.Standing.{IsSnapshot, ShortNames, RowStands, RowOf, OfRow, OfSnapshot};
 ghost use Rattle.validation.specs.Judgement.{Pass, Judges, of_row, row_refusal, row_with, seen_in};
 
 use numbers::Microcents;
@@ -66,15 +66,23 @@ fn balance_of(
     Err(RowRefusal::ConservationViolation(delta))
 }
 
-// The name of the row that starts here, kept by value.
+// The name of the row that starts here, where it stands.
+fn name_at(bytes: &[u8], at: usize) -> &[u8]
+    requires { RowStands bytes.now at }
+    ensures { OfRow bytes.now at (λ row later. result.now ≡ row.name) }
+{
+    let from = at + 1;
+    let end = snapshot_reader::name_end(bytes, at);
+    &bytes[from..end]
+}
+
+// The same, kept by value.
 fn tenant_at(bytes: &[u8], at: usize) -> TenantName
     requires { RowOf bytes.now at }
     ensures { (here : RowOf bytes.now at) → result.name ≡ stored here.row.name }
 {
-    let from = at + 1;
-    let end = snapshot_reader::name_end(bytes, at);
     TenantName {
-        name: names::name_of(&bytes[from..end]),
+        name: names::name_of(name_at(bytes, at)),
     }
 }
 
@@ -115,16 +123,13 @@ fn seen_earlier(bytes: &[u8], at: usize) -> bool
     requires { RowOf bytes.now at }
     ensures { (here : RowOf bytes.now at) → result ≡ any (same here.row.name) (seen_in [] here.earlier) }
 {
-    let from = at + 1;
-    let end = snapshot_reader::name_end(bytes, at);
+    let name = name_at(bytes, at);
     let mut earlier = rules::SNAPSHOT_HEADER;
     while earlier < at {
-        let earlier_from = earlier + 1;
-        let earlier_end = snapshot_reader::name_end(bytes, earlier);
-        if names::is_same(&bytes[from..end], &bytes[earlier_from..earlier_end]) {
+        if names::is_same(name, name_at(bytes, earlier)) {
             return true;
         }
-        earlier = earlier_end + rules::ROW_AMOUNTS;
+        earlier = snapshot_reader::name_end(bytes, earlier) + rules::ROW_AMOUNTS;
     }
     false
 }
