@@ -213,7 +213,7 @@ abbrev pub Further : (bs : List ℕ) (at end : ℕ) → Type 0
 Further bs at end = (at < end + row_amounts) × (end + row_amounts ≤ length bs)
 
 pub forward : {bs : List ℕ} {at end : ℕ} → RowStands bs at → Ends bs at end → Further bs at end
-forward s ends = let e = ends s.row s.later s.from in (omega (arith, e.size), e.within)
+forward s ends = let e = ends_there s ends in (omega (arith, e.size), e.within)
 
 -- ── short names ────────────────────────────────────────────────────────────────────────────────
 

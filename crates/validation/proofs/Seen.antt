@@ -26,12 +26,12 @@ one_earlier true false d = refl
 one_earlier false c d = refl
 
 module _ {A : Type 0} (f : A → Bool) where
-  pub any-before : (xs : List A) (x : A) → any f xs ≡ false → f x ≡ false → any f (xs ++ x ∷ []) ≡ false
+  any-before : (xs : List A) (x : A) → any f xs ≡ false → f x ≡ false → any f (xs ++ x ∷ []) ≡ false
   unfolding any
   any-before [] x h e = rw e
   any-before (y ∷ xs) x h e = let (first, others) = or-false (f y) (any f xs) h in rw first (any-before xs x others e)
 
-  pub any-there : (xs : List A) (x : A) (ys : List A) → f x ≡ true → any f ((xs ++ x ∷ []) ++ ys) ≡ true
+  any-there : (xs : List A) (x : A) (ys : List A) → f x ≡ true → any f ((xs ++ x ∷ []) ++ ys) ≡ true
   unfolding any
   any-there [] x ys e = rw e
   any-there (y ∷ xs) x ys e = rw (any-there xs x ys e) (always (f y))
@@ -43,7 +43,7 @@ module _ {A : Type 0} (f : A → Bool) where
 -- ── names seen ─────────────────────────────────────────────────────────────────────────────────
 
 module _ (a : Name) where
-  abbrev pub is_named : Row → Bool
+  abbrev is_named : Row → Bool
   is_named q = same a q.name
 
   -- the order in which names were seen does not matter
@@ -52,7 +52,7 @@ module _ (a : Name) where
   seen-among seen [] = nothing-more (any (same a) seen)
   seen-among seen (r ∷ rs) = seen-among (r.name ∷ seen) rs ∙ one_earlier (same a r.name) (any (same a) seen) (any is_named rs)
 
-  pub seen-earlier : (earlier : List Row) → any (same a) (seen_in [] earlier) ≡ any is_named earlier
+  seen-earlier : (earlier : List Row) → any (same a) (seen_in [] earlier) ≡ any is_named earlier
   unfolding any
   seen-earlier earlier = seen-among [] earlier
 
