@@ -1,6 +1,6 @@
 -- Names by their words: the order of two names is that of the big-endian numbers of their parts, the first that differ, and then of their lengths.
 use mathlib.Core.Path.{◌≡◌, refl, sym, ap, ap₂, ◌∙◌, subst}
-use mathlib.Core.Bool.{false}
+use mathlib.Core.Bool.{true, false}
 use mathlib.Core.List.{List, [], ◌∷◌, ◌++◌}
 use Prim.Native.Nat.{Ordering}
 use Prim.Native.Nat.{ℕ, zero, suc, ◌+◌, ◌*◌, ◌≤◌, ◌<◌, zero-le, suc-le-suc, compare}
@@ -9,9 +9,9 @@ use native.Mathlib.Omega.{arith}
 use borrow.Author.Tests.{ltb-true, ltb-false}
 use lib.Dec.{ltb}
 use lib.ListN.{length, get_or, take, drop, length-drop}
-use lib.Seq.{take-add, length-take-le}
+use lib.Seq.{take-add, take_all, length-take-le}
 use Rattle.rules.specs.Lists.{All}
-use Rattle.rules.specs.RoomAndSoundLedger.{IsByte, order, then_by}
+use Rattle.rules.specs.RoomAndSoundLedger.{IsByte, order, then_by, longest_name}
 use Rattle.rules.specs.SnapshotsMigrationCertificates.{bytes_of, number_from, number_of}
 use Rattle.rules.proofs.Tests.{by_bool, by_order}
 use Rattle.rules.proofs.Names.{compare-lt, compare-eq, compare-gt, compare_self, order-self, order_trans}
@@ -71,7 +71,7 @@ order-front (suc k) (x ∷ xs) (y ∷ ys) l h =
 abbrev pub part : (k j : ℕ) → List ℕ → List ℕ
 part k j xs = take k (drop j xs)
 
-pub part_length : (k j : ℕ) (xs : List ℕ) → j + k ≤ length xs → length (part k j xs) ≡ k
+part_length : (k j : ℕ) (xs : List ℕ) → j + k ≤ length xs → length (part k j xs) ≡ k
 part_length k j xs h = length-take-le k (drop j xs) (rw length-drop (omega arith))
 
 part_bytes : (k j : ℕ) (xs : List ℕ) → All IsByte xs → All IsByte (part k j xs)
@@ -113,7 +113,7 @@ zeros-first (x ∷ xs) (y ∷ ys) e cy h =
     refl h
 
 -- lists that are zero past the names are in the names' order
-pub names-order : (xs ys : List ℕ) (n m : ℕ) → length xs ≡ length ys → ClearFrom n xs → ClearFrom m ys → order xs ys ≡ Ordering.lt → order (take n xs) (take m ys) ≡ Ordering.lt
+names-order : (xs ys : List ℕ) (n m : ℕ) → length xs ≡ length ys → ClearFrom n xs → ClearFrom m ys → order xs ys ≡ Ordering.lt → order (take n xs) (take m ys) ≡ Ordering.lt
 unfolding order
 names-order [] [] n m e cx cy h = cc
 names-order [] (y ∷ ys) n m e cx cy h = absurd (omega arith)
@@ -127,7 +127,7 @@ names-order (x ∷ xs) (y ∷ ys) (suc n) (suc m) e cx cy h =
     (λ _ t. cc) h
 
 -- a name that goes on comes after
-pub longer-order : (xs : List ℕ) (n m : ℕ) → n < m → m ≤ length xs → order (take n xs) (take m xs) ≡ Ordering.lt
+longer-order : (xs : List ℕ) (n m : ℕ) → n < m → m ≤ length xs → order (take n xs) (take m xs) ≡ Ordering.lt
 unfolding order
 longer-order xs n zero l h = absurd (not-suc-le-zero l)
 longer-order [] n (suc m) l h = absurd (omega arith)
@@ -135,48 +135,52 @@ longer-order (x ∷ xs) zero (suc m) l h = refl
 longer-order (x ∷ xs) (suc n) (suc m) l h = rw (compare_self x) (longer-order xs n m (le_of_suc-le-suc l) (le_of_suc-le-suc h))
 
 -- one of two is not before the other
-pub not-both : (a b : List ℕ) → order a b ≡ Ordering.lt → order b a ≡ Ordering.lt → ⊥
+not-both : (a b : List ℕ) → order a b ≡ Ordering.lt → order b a ≡ Ordering.lt → ⊥
 not-both a b h k =
     lt-only (sym (order-self a) ∙ order_trans a b a h k)
 
 -- what comes after is not before
-pub not-before : (a b : List ℕ) → order b a ≡ Ordering.lt → false ≡ is_before (order a b)
+not-before : (a b : List ℕ) → order b a ≡ Ordering.lt → false ≡ is_before (order a b)
 not-before a b h = by_order (λ o. false ≡ is_before o) (order a b) (λ e. absurd (not-both a b e h)) (λ _. refl) (λ _. refl)
 
 -- ── names ──────────────────────────────────────────────────────────────────────────────────────
 
--- what the words of two names' bytes say, where those before them are the same
-pub record Compared (k before here : ℕ) (xs ys : List ℕ) : Type 0 where
-  pub less : before < here → order xs ys ≡ Ordering.lt
-  pub more : here < before → order ys xs ≡ Ordering.lt
-  pub same : before ≡ here → take (8 * (k + 1)) xs ≡ take (8 * (k + 1)) ys
+-- what the words of two names say, where those before them are the same
+pub record Compared (k before here : ℕ) (p q : Name) : Type 0 where
+  pub less : before < here → true ≡ is_before (order (spelled p) (spelled q))
+  pub more : here < before → false ≡ is_before (order (spelled p) (spelled q))
+  pub same : before ≡ here → take (8 * (k + 1)) p.bytes ≡ take (8 * (k + 1)) q.bytes
 
-module _ (p q : Name) (sp : IsStored p) (sq : IsStored q) where
+names-before : (p q : Name) → IsStored p → IsStored q → order p.bytes q.bytes ≡ Ordering.lt → order (spelled p) (spelled q) ≡ Ordering.lt
+names-before p q sp sq = names-order p.bytes q.bytes p.length q.length (sp.width ∙ sym sq.width) sp.clear sq.clear
+
+module _ (p q : Name) (s : IsStored p × IsStored q) where
   pub compared :
-      (k before here : ℕ) → All IsByte p.bytes → All IsByte q.bytes → k < 3 → take (8 * k) p.bytes ≡ take (8 * k) q.bytes
-      → before ≡ number_of (part 8 (8 * k) p.bytes) → here ≡ number_of (part 8 (8 * k) q.bytes) → Compared k before here p.bytes q.bytes
-  compared k before here bp bq third alike eb eh =
+      (k before here : ℕ) → All IsByte p.bytes × All IsByte q.bytes → k < 3 → take (8 * k) p.bytes ≡ take (8 * k) q.bytes
+      → before ≡ number_of (part 8 (8 * k) p.bytes) → here ≡ number_of (part 8 (8 * k) q.bytes) → Compared k before here p q
+  compared k before here (bp, bq) third alike eb eh =
       let e : 8 * k + 8 ≡ 8 * (k + 1) = omega arith in
-      let lp : 8 * k + 8 ≤ length p.bytes = omega (arith, sp.width) in
-      let lq : 8 * k + 8 ≤ length q.bytes = omega (arith, sq.width) in
+      let lp : 8 * k + 8 ≤ length p.bytes = omega (arith, s.0.width) in
+      let lq : 8 * k + 8 ≤ length q.bytes = omega (arith, s.1.width) in
       record {
-        less = λ h. part-order 8 (8 * k) p.bytes q.bytes bp bq lp lq alike (omega arith);
-        more = λ h. part-order 8 (8 * k) q.bytes p.bytes bq bp lq lp (sym alike) (omega arith);
+        less = λ h. sym (ap is_before (names-before p q s.0 s.1 (part-order 8 (8 * k) p.bytes q.bytes bp bq lp lq alike (omega arith))));
+        more = λ h. not-before (spelled p) (spelled q) (names-before q p s.1 s.0 (part-order 8 (8 * k) q.bytes p.bytes bq bp lq lp (sym alike) (omega arith)));
         same = λ h. subst (λ m. take m p.bytes ≡ take m q.bytes) e (part_same 8 (8 * k) p.bytes q.bytes bp bq lp lq alike (sym eb ∙ h ∙ eh));
       }
 
-  pub names-before : order p.bytes q.bytes ≡ Ordering.lt → order (spelled p) (spelled q) ≡ Ordering.lt
-  names-before = names-order p.bytes q.bytes p.length q.length (sp.width ∙ sym sq.width) sp.clear sq.clear
-
-  -- names of the same bytes are in the order of their lengths
-  pub by_lengths : p.bytes ≡ q.bytes → ltb p.length q.length ≡ is_before (order (spelled p) (spelled q))
-  by_lengths e =
+  by-length : p.bytes ≡ q.bytes → ltb p.length q.length ≡ is_before (order (spelled p) (spelled q))
+  by-length e =
       let xs = p.bytes in
       let n = p.length in
       let m = q.length in
       subst (λ ys. ltb n m ≡ is_before (order (take n xs) (take m ys))) e
       (by_bool (λ b. b ≡ is_before (order (take n xs) (take m xs))) (ltb n m)
-      (λ t. sym (ap is_before (longer-order xs n m (ltb-true n m t) (omega (arith, sp.width, sq.fits)))))
+      (λ t. sym (ap is_before (longer-order xs n m (ltb-true n m t) (omega (arith, s.0.width, s.1.fits)))))
       (λ t. by_bool (λ _. false ≡ is_before (order (take n xs) (take m xs))) (ltb m n)
-      (λ u. not-before (take n xs) (take m xs) (longer-order xs m n (ltb-true m n u) (omega (arith, sp.width, sp.fits))))
+      (λ u. not-before (take n xs) (take m xs) (longer-order xs m n (ltb-true m n u) (omega (arith, s.0.width, s.0.fits))))
       (λ u. let z : m ≡ n = omega (arith, ltb-false n m t, ltb-false m n u) in sym (ap (λ j. is_before (order (take n xs) (take j xs))) z ∙ ap is_before (order-self (take n xs))))))
+
+  -- names of the same three words are in the order of their lengths
+  pub by_lengths : take longest_name p.bytes ≡ take longest_name q.bytes → ltb p.length q.length ≡ is_before (order (spelled p) (spelled q))
+  by_lengths e =
+      by-length (sym (take_all longest_name p.bytes (omega (arith, s.0.width))) ∙ e ∙ take_all longest_name q.bytes (omega (arith, s.1.width)))

@@ -20,42 +20,14 @@ pub struct Name {
 pub fn compare(left: &[u8], right: &[u8]) -> Ordering
     ensures { ordering_of result ≡ order left.now right.now }
 {
-    let mut i = 0;
-    while i < left.len() {
-        if right.len() <= i {
-            return Ordering::Greater;
-        }
-        let x = left[i];
-        let y = right[i];
-        if x < y {
-            return Ordering::Less;
-        }
-        if y < x {
-            return Ordering::Greater;
-        }
-        i += 1;
-    }
-    if i < right.len() {
-        return Ordering::Less;
-    }
-    Ordering::Equal
+    left.cmp(&right)
 }
 
 // Whether two names are one name. Names of airlines often begin alike, so their lengths are asked first and then their bytes, the last first.
 pub fn is_same(left: &[u8], right: &[u8]) -> bool
     ensures { result ≡ same left.now right.now }
 {
-    if left.len() != right.len() {
-        return false;
-    }
-    let mut i = left.len();
-    while 0 < i {
-        i -= 1;
-        if left[i] != right[i] {
-            return false;
-        }
-    }
-    true
+    left.len() == right.len() && (0..left.len()).rev().all(|i| left[i] == right[i])
 }
 
 // Eight bytes of a name as a number, the highest first: a name has three such parts.
@@ -76,8 +48,7 @@ pub fn precedes(left: Name, right: Name) -> bool
     requires bytes { All IsByte left.bytes × All IsByte right.bytes }
     ensures { result ≡ is_before (order (spelled left) (spelled right)) }
 {
-    let mut k = 0;
-    while k < 3 {
+    for k in 0..3 {
         let before = word(left, k);
         let here = word(right, k);
         if before < here {
@@ -86,7 +57,6 @@ pub fn precedes(left: Name, right: Name) -> bool
         if here < before {
             return false;
         }
-        k += 1;
     }
     left.length < right.length
 }
@@ -97,11 +67,7 @@ pub fn name_of(part: &[u8]) -> Name
     ensures { result ≡ stored part.now }
 {
     let mut bytes = [0u8; rules::LONGEST_NAME];
-    let mut i = 0;
-    while i < part.len() {
-        bytes[i] = part[i];
-        i += 1;
-    }
+    bytes[..part.len()].copy_from_slice(part);
     Name {
         length: part.len() as u8,
         bytes,
@@ -113,12 +79,7 @@ pub fn write_name(part: &mut [u8], name: Name)
     requires { (length part.old ≡ 1 + name.length) × (name.length ≤ longest_name) }
     ensures { part.new ≡ name_bytes (spelled name) }
 {
-    let end = name.length as usize;
     let bytes = name.bytes;
     part[0] = name.length;
-    let mut i = 0;
-    while i < end {
-        part[i + 1] = bytes[i];
-        i += 1;
-    }
+    part[1..].copy_from_slice(&bytes[..name.length as usize]);
 }

@@ -8,6 +8,7 @@ use native.Mathlib.Omega.{arith}
 use borrow.Author.Tests.{lt-ltb, le-ltb, ltb-true}
 use lib.Dec.{leb, ltb, compare_is_eq, leb-zero, leb-suc-zero, leb-suc-suc}
 use lib.ListN.{length, take, drop, set}
+use Rattle.std.specs.Prelude.{Some, None, option_map}
 use Rattle.rules.specs.Lists.{any, keep, All, Pairwise}
 use Rattle.rules.specs.RoomAndSoundLedger.{Name, order, same, Seat, Place, place, is_at, holds_place, Before}
 use Rattle.rules.specs.AccountRules.{inserted, put, freed}
@@ -17,9 +18,8 @@ use Rattle.rules.proofs.Names.{order-self, order-eq, order_flip, order_trans, sa
 use Rattle.rules.proofs.Places.{Over, over_any, over-trans}
 use Rattle.names.specs.Names.{spelled}
 use Rattle.names.proofs.Storing.{spelled-stored}
-use Rattle.room.specs.Contents.{later, place_of_name, goes_behind, place_for_name}
+use Rattle.room.specs.Contents.{place_of_name, goes_behind, place_for_name}
 use Rattle.room.specs.Room.{place_record, place_number}
-use Rattle.room.specs.declared.Found.TheVariants.{At, Absent}
 
 -- ── what is found ──────────────────────────────────────────────────────────────────────────────
 
@@ -28,13 +28,13 @@ pub record-name : (p : Place) → spelled (place_record p).name ≡ p.name
 unfolding place_record
 record-name p = spelled-stored p.name
 
-pub found_number : (a : Name) (ps : List Place) → place_of_name a (map place_record ps) ≡ cond (holds_place a ps) (At (place_number a ps)) Absent
+pub found_number : (a : Name) (ps : List Place) → place_of_name a (map place_record ps) ≡ cond (holds_place a ps) (Some (place_number a ps)) None
 unfolding place_of_name holds_place any place_number
 found_number a [] = refl
 found_number a (p ∷ ps) = rw (record-name p, found_number a ps)
-    (by_bool (λ b. cond b (At 0) (later (cond (any (is_at a) ps) (At (place_number a ps)) Absent)) ≡ cond (b || any (is_at a) ps) (At (cond b 0 (suc (place_number a ps)))) Absent) (is_at a p)
+    (by_bool (λ b. cond b (Some 0) (option_map suc (cond (any (is_at a) ps) (Some (place_number a ps)) None)) ≡ cond (b || any (is_at a) ps) (Some (cond b 0 (suc (place_number a ps)))) None) (is_at a p)
     (λ _. refl)
-    (λ _. by_bool (λ c. later (cond c (At (place_number a ps)) Absent) ≡ cond c (At (suc (place_number a ps))) Absent) (any (is_at a) ps) (λ _. refl) (λ _. refl)))
+    (λ _. by_bool (λ c. option_map suc (cond c (Some (place_number a ps)) None) ≡ cond c (Some (suc (place_number a ps))) None) (any (is_at a) ps) (λ _. refl) (λ _. refl)))
 
 pub number-below : (a : Name) (ps : List Place) → holds_place a ps ≡ true → place_number a ps < length ps
 unfolding holds_place any place_number

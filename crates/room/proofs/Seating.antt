@@ -7,6 +7,7 @@ use mathlib.Core.Option.{Option, none, some}
 use Prim.Native.Nat.{ℕ, suc, ◌≤◌, ◌<◌}
 use native.Mathlib.Omega.{arith}
 use lib.ListN.{length, get_or, get_or-map, length-map}
+use Rattle.std.specs.Prelude.{Some, None}
 use Rattle.rules.specs.Lists.{first, any}
 use Rattle.rules.specs.RoomAndSoundLedger.{M, Name, same, Seat as RulesSeat, seat, Place as RulesPlace, place, Ledger, is_vacant, with_places, is_at, seat_of, holds_place, seat_in, has_account, AddsUp, Sound, Account}
 use Rattle.rules.specs.AccountRules.{put, freed, seated}
@@ -19,7 +20,6 @@ use Rattle.moves.specs.declared.Seat.{Seat}
 use Rattle.room.specs.Contents.{Contents, empty_place, place_of_name, place_for_name, with_place, inserted_place, freed_place}
 use Rattle.room.specs.Room.{place_with, place_record, place_number, contents_in}
 use Rattle.room.specs.Seats.{seat_of_place, seat_found, reseated, with_seat}
-use Rattle.room.specs.declared.Found.TheVariants.{At, Absent}
 use Rattle.room.proofs.Decoding.{nowhere, number-name, kept-meaning}
 use Rattle.room.proofs.Filled.{filled_at}
 use Rattle.room.proofs.Numbers.{found_number, number-below}
@@ -51,7 +51,7 @@ unfolding place_record
 record-seat p = refl
 
 pub seat-found : (a : Name) (ps : List RulesPlace) → seat_found (place_of_name a (map place_record ps)) (map place_record ps) ≡ kept_seat (seat_in a ps)
-seat-found a ps = rw (found_number a ps) (by_bool (λ b. holds_place a ps ≡ b → seat_found (cond b (At (place_number a ps)) Absent) (map place_record ps) ≡ kept_seat (seat_in a ps)) (holds_place a ps)
+seat-found a ps = rw (found_number a ps) (by_bool (λ b. holds_place a ps ≡ b → seat_found (cond b (Some (place_number a ps)) None) (map place_record ps) ≡ kept_seat (seat_in a ps)) (holds_place a ps)
     (λ _ h. ap seat_of_place (record-at ps (place_number a ps)) ∙ record-seat (get_or ps (place_number a ps) nowhere) ∙ ap kept_seat (number-seat a ps h))
     (λ _ h. unfold kept_seat in sym (ap kept_seat (absent-seat a ps h))) refl)
 

@@ -9,6 +9,7 @@ use native.Mathlib.Omega.{arith}
 use borrow.Author.Tests.{eqb-true, ne_eqb}
 use lib.ListN.{length, get_or, take, drop, set, replicate, length-map, length-append, length-drop}
 use lib.Seq.{take_at, drop_at, length-take-le}
+use Rattle.std.specs.Prelude.{Option, Some, None, option_map}
 use Rattle.rules.specs.Lists.{first, keep, All, Pairwise}
 use Rattle.rules.specs.RoomAndSoundLedger.{Name, same, Seat, Place as RulesPlace, place, Booking as RulesBooking, Ledger, with_places, with_bookings, holds_place, seat_in, has_account, Sound}
 use Rattle.rules.specs.AccountRules.{put, freed, has_id, booked, ended, drawn}
@@ -19,10 +20,8 @@ use Rattle.rules.proofs.Bookings.{Below}
 use Rattle.records.proofs.Rows.{map-set}
 use Rattle.records.specs.declared.Booking.{Booking}
 use Rattle.records.specs.Records.{booking}
-use Rattle.room.specs.Contents.{contents, empty_place, empty_booking, later, place_for_name, booking_of_id, with_head, with_place, opened, closed, raised, lowered, renumbered, inserted_place, freed_place, appended_booking, removed_booking}
+use Rattle.room.specs.Contents.{contents, empty_place, empty_booking, place_for_name, booking_of_id, with_head, with_place, opened, closed, raised, lowered, renumbered, inserted_place, freed_place, appended_booking, removed_booking}
 use Rattle.room.specs.Room.{place_record, place_number, booking_record, filled, head_in, contents_in}
-use Rattle.room.specs.declared.Found.{Found}
-use Rattle.room.specs.declared.Found.TheVariants.{At, Absent}
 use Rattle.room.proofs.Filled.{filled-set, filled_more, filled-opened, filled-closed}
 use Rattle.room.proofs.Numbers.{number-below, put-replaces, number-replaced, place-for-at-most, put-opens, number-opened, freed-closes, number-freed}
 
@@ -168,16 +167,16 @@ module _ (L : Ledger) where
 -- ── a live booking found by its id ─────────────────────────────────────────────────────────────
 
 -- what a look-up by id says of the bookings of a ledger
-pub data BookingFound (id : ℕ) (bs : List RulesBooking) : Found → Type 0 where
-  live_at : {i : ℕ} (b : RulesBooking) → i < length bs → get_or bs i b ≡ b → booked id bs ≡ some b → ended id bs ≡ take i bs ++ drop (suc i) bs → BookingFound id bs (At i)
-  not_live : booked id bs ≡ none → BookingFound id bs Absent
+pub data BookingFound (id : ℕ) (bs : List RulesBooking) : Option ℕ → Type 0 where
+  live_at : {i : ℕ} (b : RulesBooking) → i < length bs → get_or bs i b ≡ b → booked id bs ≡ some b → ended id bs ≡ take i bs ++ drop (suc i) bs → BookingFound id bs (Some i)
+  not_live : booked id bs ≡ none → BookingFound id bs None
 
 module _ (ps : List RulesPlace) (id : ℕ) where
   -- a booking of another id in front
-  behind : (c : RulesBooking) (bs : List RulesBooking) → has_id id c ≡ false → (f : Found) → BookingFound id bs f → BookingFound id (c ∷ bs) (later f)
+  behind : (c : RulesBooking) (bs : List RulesBooking) → has_id id c ≡ false → (f : Option ℕ) → BookingFound id bs f → BookingFound id (c ∷ bs) (option_map suc f)
   unfolding booked ended first keep
-  behind c bs e (At i) (live_at b below at is ends) = live_at {i = suc i} b (omega arith) at (rw e is) (rw e (ap (λ l. c ∷ l) ends))
-  behind c bs e Absent (not_live is) = not_live (rw e is)
+  behind c bs e (Some i) (live_at b below at is ends) = live_at {i = suc i} b (omega arith) at (rw e is) (rw e (ap (λ l. c ∷ l) ends))
+  behind c bs e None (not_live is) = not_live (rw e is)
 
   here : (c : RulesBooking) (bs : List RulesBooking) → has_id id c ≡ true → booked id (c ∷ bs) ≡ some c
   unfolding booked first
@@ -194,6 +193,6 @@ module _ (ps : List RulesPlace) (id : ℕ) where
   pub booking-found : (bs : List RulesBooking) → Pairwise Below bs → BookingFound id bs (booking_of_id id (map (booking_record ps) bs))
   unfolding booking_of_id
   booking-found [] ascend = not_live (unfold booked first in refl)
-  booking-found (c ∷ bs) (above, ascend) = by_bool (λ t. has_id id c ≡ t → BookingFound id (c ∷ bs) (cond t (At 0) (later (booking_of_id id (map (booking_record ps) bs))))) (has_id id c)
+  booking-found (c ∷ bs) (above, ascend) = by_bool (λ t. has_id id c ≡ t → BookingFound id (c ∷ bs) (cond t (Some 0) (option_map suc (booking_of_id id (map (booking_record ps) bs))))) (has_id id c)
       (λ _ e. live_at c (omega arith) refl (here c bs e) (alone c bs e above))
       (λ _ e. behind c bs e (booking_of_id id (map (booking_record ps) bs)) (booking-found bs ascend)) refl
