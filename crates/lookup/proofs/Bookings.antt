@@ -11,8 +11,7 @@ use lib.ListN.{length, get_or}
 use Rattle.rules.specs.Lists.{All}
 use Rattle.rules.proofs.Lists.{all_map}
 use Rattle.records.specs.declared.Booking.{Booking}
-use Rattle.room.specs.declared.Found.{Found}
-use Rattle.room.specs.declared.Found.TheVariants.{At, Absent}
+use Rattle.std.specs.Prelude.{Option, Some, None}
 use Rattle.room.specs.Contents.{booking_of_id, empty_booking}
 use Rattle.lookup.proofs.FirstPlace.{first_place, FirstIs, first-is, first-only}
 use Rattle.lookup.proofs.Halving.{Divides}
@@ -30,15 +29,15 @@ module _ (id : ℕ) where
   pub booking-is : (d : Booking) (bs : List Booking) → FirstIs (has_id id) d bs (booking_of_id id bs)
   booking-is d bs = rw booking-first (first-is (has_id id) d bs)
 
-  pub booking-only : (d : Booking) (bs : List Booking) (r : Found) → FirstIs (has_id id) d bs r → r ≡ booking_of_id id bs
+  pub booking-only : (d : Booking) (bs : List Booking) (r : Option ℕ) → FirstIs (has_id id) d bs r → r ≡ booking_of_id id bs
   booking-only d bs r h = rw booking-first (first-only (has_id id) d bs r h)
 
-  pub booking-found : (d : Booking) (bs : List Booking) (i : ℕ) → booking_of_id id bs ≡ At i → (i < length bs) × ((get_or bs i d).id.0 ≡ id)
+  pub booking-found : (d : Booking) (bs : List Booking) (i : ℕ) → booking_of_id id bs ≡ Some i → (i < length bs) × ((get_or bs i d).id.0 ≡ id)
   booking-found d bs i e =
       let (h, t, k) = subst (FirstIs (has_id id) d bs) e (booking-is d bs) in
       (h, sym (eqb-true id (get_or bs i d).id.0 t))
 
-  pub booking-absent : (bs : List Booking) → booking_of_id id bs ≡ Absent → All (λ b. b.id.0 ≢ id) bs
+  pub booking-absent : (bs : List Booking) → booking_of_id id bs ≡ None → All (λ b. b.id.0 ≢ id) bs
   booking-absent bs e =
       all_map (λ b. has_id id b ≡ false) (λ b. b.id.0 ≢ id) (λ b h q. eqb-false id b.id.0 h (sym q)) bs
       (subst (FirstIs (has_id id) empty_booking bs) e (booking-is empty_booking bs))

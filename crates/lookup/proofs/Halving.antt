@@ -10,7 +10,7 @@ use native.Mathlib.Omega.{arith}
 use borrow.Author.Count.{below_none, below_more}
 use lib.ListN.{length, get_or}
 use Rattle.rules.specs.Lists.{Pairwise}
-use Rattle.room.specs.declared.Found.TheVariants.{At, Absent}
+use Rattle.std.specs.Prelude.{Some, None}
 use Rattle.rules.proofs.ByIndex.{all-of-reads, pairwise-read}
 use Rattle.lookup.proofs.FirstPlace.{FirstIs}
 
@@ -50,10 +50,10 @@ module _ {A : Type 0} {S : A → A → Type 0} {test : A → Bool} {Below Above 
         go k m (inl e) = subst (λ j. Above (get_or xs j d)) e h
         go k m (inr l) = divides.higher (get_or xs middle d) (get_or xs k d) (pairwise-read S d xs middle k ascend l m) h
 
-    pub hit : test (get_or xs middle d) ≡ true → FirstIs test d xs (At middle)
+    pub hit : test (get_or xs middle d) ≡ true → FirstIs test d xs (Some middle)
     hit t = (omega arith, t, λ k l. divides.below (get_or xs k d) (divides.at (get_or xs k d) (get_or xs middle d) (pairwise-read S d xs k middle ascend l (omega arith)) t))
 
-  pub miss : {low high : ℕ} → Bracket Below Above d xs low high → high ≤ low → FirstIs test d xs Absent
+  pub miss : {low high : ℕ} → Bracket Below Above d xs low high → high ≤ low → FirstIs test d xs None
   miss {low} {high} bracket h = all-of-reads (λ x. test x ≡ false) d xs (λ k l. go k l (dec_lt k low))
     where
       go : (k : ℕ) → k < length xs → Dec (k < low) → test (get_or xs k d) ≡ false

@@ -15,8 +15,7 @@ use Rattle.rules.proofs.Lists.{all_map}
 use Rattle.rules.proofs.Names.{same_true, same_false}
 use Rattle.names.specs.Names.{spelled}
 use Rattle.records.specs.declared.Place.{Place}
-use Rattle.room.specs.declared.Found.{Found}
-use Rattle.room.specs.declared.Found.TheVariants.{At, Absent}
+use Rattle.std.specs.Prelude.{Option, Some, None}
 use Rattle.room.specs.Contents.{goes_behind, place_of_name, place_for_name, empty_place, contents_of, Sized, used_places}
 use Rattle.room.specs.Room.{SoundRoom}
 use Rattle.room.specs.Seats.{FoundIn}
@@ -46,15 +45,15 @@ module _ (a : Name) where
   pub name-is : (d : Place) (ps : List Place) → FirstIs (spells a) d ps (place_of_name a ps)
   name-is d ps = rw name-first (first-is (spells a) d ps)
 
-  pub name-only : (d : Place) (ps : List Place) (r : Found) → FirstIs (spells a) d ps r → r ≡ place_of_name a ps
+  pub name-only : (d : Place) (ps : List Place) (r : Option ℕ) → FirstIs (spells a) d ps r → r ≡ place_of_name a ps
   name-only d ps r h = rw name-first (first-only (spells a) d ps r h)
 
-  pub name-found : (d : Place) (ps : List Place) (i : ℕ) → place_of_name a ps ≡ At i → (i < length ps) × (spelled (get_or ps i d).name ≡ a)
+  pub name-found : (d : Place) (ps : List Place) (i : ℕ) → place_of_name a ps ≡ Some i → (i < length ps) × (spelled (get_or ps i d).name ≡ a)
   name-found d ps i e =
       let (h, t, k) = subst (FirstIs (spells a) d ps) e (name-is d ps) in
       (h, sym (same_true a (spelled (get_or ps i d).name) t))
 
-  pub name-absent : (ps : List Place) → place_of_name a ps ≡ Absent → All (λ p. spelled p.name ≢ a) ps
+  pub name-absent : (ps : List Place) → place_of_name a ps ≡ None → All (λ p. spelled p.name ≢ a) ps
   name-absent ps e =
       all_map (λ p. spells a p ≡ false) (λ p. spelled p.name ≢ a) (λ p h q. same_false a (spelled p.name) h (sym q)) ps
       (subst (FirstIs (spells a) no_place ps) e (name-is no_place ps))
@@ -97,12 +96,12 @@ module _ (a : Name) (d : Place) where
       omega (arith, nearer ps i (place_for_name a ps) g h, nearer ps (place_for_name a ps) i h g)
 
 -- a place that a look-up answers is one of those searched
-found_in : (a : Name) (ps : List Place) (f : Found) → f ≡ place_of_name a ps → FoundIn f ps
-found_in a ps (At i) e = (name-found a no_place ps i (sym e)).0
-found_in a ps Absent e = tt
+found_in : (a : Name) (ps : List Place) (f : Option ℕ) → f ≡ place_of_name a ps → FoundIn f ps
+found_in a ps (Some i) e = (name-found a no_place ps i (sym e)).0
+found_in a ps None e = tt
 
 -- so the seat there may be read (`seats::seat_at`)
-pub seat-readable : (xs : List ℕ) → SoundRoom xs → (a : Name) (f : Found) → f ≡ place_of_name a (used_places (contents_of xs)) → Sized xs × FoundIn f (used_places (contents_of xs))
+pub seat-readable : (xs : List ℕ) → SoundRoom xs → (a : Name) (f : Option ℕ) → f ≡ place_of_name a (used_places (contents_of xs)) → Sized xs × FoundIn f (used_places (contents_of xs))
 seat-readable xs sound a f e = ((searchable xs sound).sized, found_in a (used_places (contents_of xs)) f e)
 
 pub place-within : (a : Name) (ps : List Place) → place_for_name a ps ≤ length ps

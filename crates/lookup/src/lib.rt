@@ -11,7 +11,6 @@ ghost use Rattle.records.specs.Records.{place_of};
 ghost use Rattle.room.specs.Contents.{contents_of, used_places, live_bookings, place_of_name, place_for_name, booking_of_id, Searchable};
 
 use numbers::Identifier;
-use std::cmp::Ordering;
 
 // The name at place i where it stands in the room: its length, and after that its bytes.
 fn name_at(room: &[u8], i: usize) -> &[u8]
@@ -31,14 +30,7 @@ pub fn find(room: &[u8], part: &[u8]) -> Option<usize>
 {
     let sizes = records::load_sizes(room);
     let used = sizes.used as usize;
-    let mut i = 0;
-    while i < used {
-        if names::is_same(part, name_at(room, i)) {
-            return Some(i);
-        }
-        i += 1;
-    }
-    None
+    (0..used).find(|&i| names::is_same(part, name_at(room, i)))
 }
 
 // Where a new name goes: behind the names that come before it.
@@ -48,17 +40,15 @@ pub fn place_for(room: &[u8], part: &[u8]) -> usize
 {
     let sizes = records::load_sizes(room);
     let used = sizes.used as usize;
-    let mut i = 0;
-    while i < used {
-        let Ordering::Less = names::compare(name_at(room, i), part) else {
+    for i in 0..used {
+        if names::compare(name_at(room, i), part).is_ge() {
             return i;
-        };
-        i += 1;
+        }
     }
-    i
+    used
 }
 
-// A live booking by its id, by halving: ids ascend.
+// A live booking by its id, by halving: ids ascend. Two tests of the ids take fewer steps than one `cmp` and a match on it.
 pub fn find_booking(room: &[u8], id: Identifier) -> Option<usize>
     requires { Searchable room.now }
     ensures { result ≡ booking_of_id id.0 (live_bookings (contents_of room.now)) }

@@ -122,12 +122,10 @@ fn due_at(room: &[u8], j: usize) -> Due
     let base = records::HEAD_SIZE + records::PLACE_SIZE * (sizes.names as usize);
     let booking = records::load_booking(room, base, j);
     let owner = booking.owner as usize;
-    let amount = booking.amount;
-    let seat = seats::seat_at(room, Some(owner));
     Due {
-        amount,
+        amount: booking.amount,
         owner,
-        seat,
+        seat: seats::seat_at(room, Some(owner)),
     }
 }
 

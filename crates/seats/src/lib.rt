@@ -9,30 +9,19 @@ ghost use Rattle.rules.specs.RoomAndSoundLedger.{is_vacant, holds_place, seat_in
 ghost use Rattle.moves.specs.Moves.{meaning, SeatSound};
 ghost use Rattle.room.specs.Contents.{contents_of, Sized, used_places, place_of_name};
 ghost use Rattle.room.specs.Room.{SoundRoom, OfRoom};
-ghost use Rattle.room.specs.Seats.{FoundIn, seat_found, with_seat};
+ghost use Rattle.room.specs.Seats.{FoundIn, seat_of_place, seat_found, with_seat};
 ghost use Rattle.tables.specs.Steps.{Becomes};
-ghost use Rattle.seats.specs.Writing.{WritesSeat};
+ghost use Rattle.seats.specs.Writing.{seated_under, WritesSeat};
 
 use moves::Seat;
+use names::Name;
 use records::Place;
 use refusals::Refusal;
 
-// A name that holds no place has nothing.
-pub fn seat_at(room: &[u8], found: Option<usize>) -> Seat
-    requires { Sized room.now × FoundIn found (used_places (contents_of room.now)) }
-    ensures { result ≡ seat_found found (used_places (contents_of room.now)) }
+// What a place keeps beside its name.
+fn seat_of(place: Place) -> Seat
+    ensures { result ≡ seat_of_place place }
 {
-    let Some(i) = found else {
-        return Seat {
-            initial: 0,
-            remaining: 0,
-            reserved: 0,
-            committed: 0,
-            limit: 0,
-            account: 0,
-        };
-    };
-    let place = records::load_place(room, i);
     Seat {
         initial: place.initial,
         remaining: place.remaining,
@@ -43,14 +32,11 @@ pub fn seat_at(room: &[u8], found: Option<usize>) -> Seat
     }
 }
 
-// The seat of the place at i; its name stays.
-pub fn put_seat(room: &mut [u8], i: usize, seat: Seat)
-    requires { Sized room.old × (i < (contents_of room.old).sizes.used) }
-    ensures { Becomes (with_seat i seat) room.old room.new }
+// A seat in the place of a name.
+fn place_with(seat: Seat, name: Name) -> Place
+    ensures { result ≡ seated_under name seat }
 {
-    let old = records::load_place(room, i);
-    let name = old.name;
-    let place = Place {
+    Place {
         initial: seat.initial,
         remaining: seat.remaining,
         reserved: seat.reserved,
@@ -58,8 +44,34 @@ pub fn put_seat(room: &mut [u8], i: usize, seat: Seat)
         limit: seat.limit,
         account: seat.account,
         name,
-    };
-    tables::put_place(room, i, place);
+    }
+}
+
+// A name that holds no place has nothing.
+pub fn seat_at(room: &[u8], found: Option<usize>) -> Seat
+    requires { Sized room.now × FoundIn found (used_places (contents_of room.now)) }
+    ensures { result ≡ seat_found found (used_places (contents_of room.now)) }
+{
+    match found {
+        Some(i) => seat_of(records::load_place(room, i)),
+        None => Seat {
+            initial: 0,
+            remaining: 0,
+            reserved: 0,
+            committed: 0,
+            limit: 0,
+            account: 0,
+        },
+    }
+}
+
+// The seat of the place at i; its name stays.
+pub fn put_seat(room: &mut [u8], i: usize, seat: Seat)
+    requires { Sized room.old × (i < (contents_of room.old).sizes.used) }
+    ensures { Becomes (with_seat i seat) room.old room.new }
+{
+    let old = records::load_place(room, i);
+    tables::put_place(room, i, place_with(seat, old.name));
 }
 
 // Document 01, Room and the sound ledger: with neither an account nor a limit a name needs no place.
@@ -81,16 +93,7 @@ fn open_place(room: &mut [u8], part: &[u8], seat: Seat) -> Result<(), Refusal>
     }
     let at = lookup::place_for(room, part);
     let name = names::name_of(part);
-    let place = Place {
-        initial: seat.initial,
-        remaining: seat.remaining,
-        reserved: seat.reserved,
-        committed: seat.committed,
-        limit: seat.limit,
-        account: seat.account,
-        name,
-    };
-    tables::insert_place(room, at, place);
+    tables::insert_place(room, at, place_with(seat, name));
     Ok(())
 }
 
@@ -101,16 +104,11 @@ pub fn write_seat(room: &mut [u8], part: &[u8], found: Option<usize>, seat: Seat
         × (OfRoom room.old (λ L. is_vacant (meaning seat) ≡ true → (seat_in part.now L.places).account ≡ none)) }
     ensures { OfRoom room.old (λ L. WritesSeat part.now seat L room.old room.new result) }
 {
-    let Some(i) = found else {
-        if is_vacant(seat) {
-            return Ok(());
-        }
-        return open_place(room, part, seat);
-    };
-    if is_vacant(seat) {
-        tables::free_place(room, i);
-        return Ok(());
+    match (found, is_vacant(seat)) {
+        (Some(i), true) => tables::free_place(room, i),
+        (Some(i), false) => put_seat(room, i, seat),
+        (None, true) => {}
+        (None, false) => open_place(room, part, seat)?,
     }
-    put_seat(room, i, seat);
     Ok(())
 }

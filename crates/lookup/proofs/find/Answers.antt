@@ -1,57 +1,45 @@
--- `lookup::find` meets its contract. The invariant: no place passed spells the name.
+-- `lookup::find` meets its contract: what is found among the numbers of the places in use is the first place that spells the name.
 use mathlib.Core.Path.{◌≡◌, sym, ap, ◌∙◌}
-use mathlib.Core.Bool.{false}
+use mathlib.Core.Bool.{Bool, true, false}
+use mathlib.Core.List.{List}
+use Prim.Native.Nat.{ℕ, ◌≤◌, ◌<◌, zero-le}
 use native.Mathlib.Omega.{arith}
-use borrow.Author.Count.{below_none, below_more}
 use lib.ListN.{get_or}
-use Rattle.rules.specs.RoomAndSoundLedger.{same}
-use Rattle.records.specs.Records.{sizes_of}
-use Rattle.room.specs.Contents.{contents_of, used_places}
-use Rattle.room.specs.declared.Found.TheVariants.{At, Absent}
+use Rattle.std.proofs.Common.{Option, Some, None, MatchOption, rules}
+use Rattle.std.proofs.lemmas.Iterator.{serves_from_Range, first_from_Range}
+use Rattle.rules.specs.RoomAndSoundLedger.{Name, same}
+use Rattle.names.specs.Names.{spelled}
+use Rattle.records.specs.Layout.{place_start, place_size}
+use Rattle.records.specs.Rows.{row}
+use Rattle.records.specs.Records.{place_of, sizes_of}
+use Rattle.room.specs.Contents.{contents_of, Sized, used_places, place_of_name}
 use Rattle.rules.proofs.ByIndex.{all-of-reads}
 use Rattle.room.proofs.InRoom.{used-places, loaded-name, name-in-room}
 use Rattle.lookup.proofs.Places.{no_place, spells, name-only}
-use Rattle.lookup.proofs.find.Lts as place
-use Rattle.lookup.proofs.find.Tie as tie
 use Rattle.lookup.proofs.find.Goals as goal
 
-abbrev After-load_sizes-sizes : Type 0
-After-load_sizes-sizes = place.After-load_sizes tie.the-claims tie.handed_pre tie.handed_post goal.the-invariant-loop-i goal.the-decreases-loop-i
+-- what stands at a place in the room spells the name
+abbrev spelled-at : List ℕ → Name → ℕ → Bool
+spelled-at xs a i = same a (spelled (place_of (row place_size (place_start i) xs)).name)
 
-abbrev After-is_same : Type 0
-After-is_same = place.After-is_same tie.the-claims tie.handed_pre tie.handed_post goal.the-invariant-loop-i goal.the-decreases-loop-i
+module _ (xs : List ℕ) (s : Sized xs) (a : Name) (n : ℕ) (e : n ≡ (sizes_of xs).used) where
+  at-place : (i : ℕ) (b : Bool) → i < n → spelled-at xs a i ≡ b → spells a (get_or (used_places (contents_of xs)) i no_place) ≡ b
+  at-place i b h t = ap (same a) (sym (loaded-name xs s i no_place (omega arith))) ∙ t
 
-in_use : (c : After-load_sizes-sizes) → c.load_sizes-sizes.result.used ≡ (sizes_of c.args.room.now).used
-in_use c = ap (λ s. s.used) c.load_sizes-sizes.ensures
+  first-found : (r : Option ℕ) → MatchOption r ((k : ℕ) → 0 ≤ k → k < n → spelled-at xs a k ≡ false)
+      (λ i. (0 ≤ i) × (i < n) × (spelled-at xs a i ≡ true) × ((k : ℕ) → 0 ≤ k → k < i → spelled-at xs a k ≡ false)) → r ≡ place_of_name a (used_places (contents_of xs))
+  first-found None h = name-only a no_place _ None (all-of-reads _ no_place _ (λ k l. at-place k false (omega (arith, used-places xs s)) (h k zero-le (omega (arith, used-places xs s)))))
+  first-found (Some i) (h, l, t, k) =
+      name-only a no_place _ (Some i) (omega (arith, used-places xs s), at-place i true l t, λ j m. at-place j false (omega arith) (k j zero-le m))
 
-compared : (c : After-is_same) →
-    spells c.args.part.now (get_or (used_places (contents_of c.args.room.now)) c.loop-i.i no_place) ≡ c.is_same.result
-compared c =
-    let kept = c.name_at.ensures ∙ loaded-name c.args.room.now c.requires.sized c.loop-i.i no_place (omega (arith, in_use c.before.before.before.before)) in
-    sym (c.is_same.ensures ∙ ap (same c.args.part.now) kept)
-
-pub load_sizes-sizes-requires : goal.load_sizes-sizes-requires
-load_sizes-sizes-requires c = omega (arith, c.requires.sized.size)
-
-pub name_at-requires : goal.name_at-requires
-name_at-requires c =
-    name-in-room c.args.room.now c.requires.sized c.loop-i.i c.requires.names_stored (omega (arith, in_use c.before.before.before))
-
-pub returns-then-is_same : goal.returns-then-is_same
-returns-then-is_same c =
-    let ps = used_places (contents_of c.args.room.now) in
-    name-only c.args.part.now no_place ps (At c.loop-i.i)
-    (omega (arith, in_use c.before.before.before.before.before.before, used-places c.args.room.now c.requires.sized), compared c.before.before ∙ c.if-is_same.true, c.loop-i.invariant.1)
-
-pub loop-i-preserved : goal.loop-i-preserved
-loop-i-preserved c =
-    (omega arith, below_more _ c.loop-i.i c.loop-i.invariant.1 (compared c.before.before ∙ c.if-is_same.false))
+pub find-requires-clause-callable : goal.find-requires-clause-callable
+find-requires-clause-callable c =
+    let used = ap (λ s. s.used) c.load_sizes-sizes.ensures in
+    serves_from_Range (λ x q k. search rules) (λ x h l. let here = name-in-room c.args.room.now c.requires.sized x c.requires.names_stored (omega arith) in search rules)
 
 pub returns : goal.returns
 returns c =
-    let ps = used_places (contents_of c.args.room.now) in
-    name-only c.args.part.now no_place ps Absent
-    (all-of-reads (λ p. spells c.args.part.now p ≡ false) no_place ps (λ k h. c.loop-i.invariant.1 k (omega (arith, in_use c.before.before.before, used-places c.args.room.now c.requires.sized))))
-
-pub loop-i-init : goal.loop-i-init
-loop-i-init c = (omega arith, below_none _)
+    let xs = c.args.room.now in
+    let a = c.args.part.now in
+    first-found xs c.requires.sized a c.load_sizes-sizes.result.used (ap (λ s. s.used) c.load_sizes-sizes.ensures) c.find.result
+    (first_from_Range _ _ _ c.find.result (λ i. spelled-at xs a i ≡ true) (λ i. spelled-at xs a i ≡ false) c.find.ensures.ran (λ x q k. search rules) (λ x q k. search rules))

@@ -5,24 +5,18 @@ use native.Mathlib.Omega.{arith}
 use Rattle.room.specs.Contents.{contents_of, empty_place, with_place}
 use Rattle.room.specs.Seats.{reseated, with_seat}
 use Rattle.tables.proofs.Stores.{sized-by, place-loaded}
-use Rattle.seats.proofs.put_seat.Lts as place
-use Rattle.seats.proofs.put_seat.Tie as tie
 use Rattle.seats.proofs.put_seat.Goals as goal
 
-abbrev Start : Type 0
-Start = place.Start tie.the-claims tie.handed_pre tie.handed_post
-
-within : (c : Start) → c.args.i < (contents_of c.args.room.now).sizes.names
-within c = let r = sized-by c.args.room.now c.requires.0 in omega arith
-
 pub load_place-old-requires : goal.load_place-old-requires
-load_place-old-requires c =
-    let r = sized-by c.args.room.now c.requires.0 in
-    omega (arith, within c.before)
+load_place-old-requires c = let r = sized-by c.args.room.now c.requires.0 in omega arith
 
 pub returns : goal.returns
 unfolding with_seat
 returns c =
     let put = c.put_place in
     let xs = c.args.room.now in
-    (put.ensures.0, put.ensures.1 ∙ ap (λ p. with_place c.args.i (reseated c.args.seat p) (contents_of xs)) (c.load_place-old.ensures ∙ place-loaded xs c.args.i empty_place (within c.before.before.before.before.before.before.before.before)))
+    let r = sized-by xs c.requires.0 in
+    (
+      put.ensures.0,
+      put.ensures.1 ∙ ap (λ p. with_place c.args.i p (contents_of xs)) (c.place_with.ensures ∙ ap (reseated c.args.seat) (c.load_place-old.ensures ∙ place-loaded xs c.args.i empty_place (omega arith))),
+    )
