@@ -4,7 +4,7 @@
 
 mod tenant_name;
 
-pub use tenant_name::TenantName;
+pub use tenant_name::{TenantName, no_tenant};
 
 ghost use Rattle.std.specs.Prelude.{◌≡◌};
 ghost use Rattle.rules.specs.AnswerNumbers.{reply_of};

@@ -1,18 +1,18 @@
 -- Bookings that take what is reserved: a booking that may follow takes its amount, and what is left is for the others.
-use mathlib.Core.Path.{◌≡◌, refl, ap, ◌∙◌}
-use mathlib.Core.Logic.{◌≢◌, ⊎_elim}
-use mathlib.Core.List.{List, [], ◌∷◌}
-use Prim.Native.Nat.{ℕ, ◌+◌, ◌-◌, ◌≤◌, ◌<◌}
-use native.Mathlib.Omega.{arith}
-use borrow.Author.Tests.{eq-eqb, ne_eqb}
-use lib.ListN.{length, get_or, set}
-use lib.Seq.{get_or-set_same, get_or-set_other}
+use Rattle.std.proofs.Common.{◌≡◌, ◌≢◌, refl, sym, ap, ◌∙◌, ⊎_elim, List, [], ◌∷◌, ℕ, ◌+◌, ◌-◌, ◌*◌, ◌≤◌, ◌<◌, length, get_or, set, drop, arith, eq-eqb, ne_eqb}
+use Rattle.std.proofs.Math.ListN.{drop_of_length-le}
+use Rattle.std.proofs.Math.Seq.{get_or-set_same, get_or-set_other}
 use Rattle.rules.specs.Lists.{sum}
 use Rattle.rules.proofs.Tests.{equal_or_not}
 use Rattle.rules.proofs.Lists.{all_map}
+use Rattle.records.specs.Layout.{booking_size}
+use Rattle.records.specs.Rows.{row}
+use Rattle.records.specs.Records.{booking_of, bookings}
 use Rattle.records.specs.declared.Booking.{Booking}
+use Rattle.records.proofs.Rows.{table-length}
 use Rattle.soundness.specs.Facts.{share_of}
 use Rattle.soundness.specs.Steps.{ZeroBelow, Follows, Booked}
+use Rattle.soundness.proofs.Tables.{table-from}
 
 share-own : (i : ℕ) (b : Booking) → i ≡ b.owner → share_of i b ≡ b.amount.0
 share-own i b e = rw (eq-eqb i b.owner e)
@@ -35,33 +35,36 @@ taken-share b reserved i within enough =
     (λ n. omega (arith, share_other i b n, get_or-set_other reserved b.owner i rest 0 n))
     (equal_or_not i b.owner)
 
-module _ (last next used : ℕ) (reserved : List ℕ) (b : Booking) (bs : List Booking) where
-  pub first-follows : Booked last next used reserved (b ∷ bs) → Follows last next used b
-  first-follows h = (h.after.0, h.sound.each.0)
+-- bookings of which this is the first, and these are the rest
+module _ (last next used : ℕ) (reserved : List ℕ) (b : Booking) (bs rest : List Booking) (from : bs ≡ b ∷ rest) where
+  pub first-follows : Booked last next used reserved bs → Follows last next used b
+  first-follows h = let k = rw from at h in (k.after.0, k.sound.each.0)
 
-  pub first-within : Booked last next used reserved (b ∷ bs) → b.amount.0 ≤ get_or reserved b.owner 0
+  pub first-within : Booked last next used reserved bs → b.amount.0 ≤ get_or reserved b.owner 0
   unfolding sum
-  first-within h = omega (arith, h.sums b.owner h.sound.each.0.owner, share-own b.owner b refl)
+  first-within h = let k = rw from at h in omega (arith, k.sums b.owner k.sound.each.0.owner, share-own b.owner b refl)
 
   module _ (follows : Follows last next used b) (few : used ≤ length reserved) (enough : b.amount.0 ≤ get_or reserved b.owner 0) where
     shared : (i : ℕ) → share_of i b + get_or (taken b reserved) i 0 ≡ get_or reserved i 0
     shared i = let owner = follows.1.owner in taken-share b reserved i (omega arith) enough
 
-    pub booked-rest : Booked last next used reserved (b ∷ bs) → Booked b.id.0 next used (taken b reserved) bs
+    pub booked-rest : Booked last next used reserved bs → Booked b.id.0 next used (taken b reserved) rest
     unfolding sum
-    booked-rest h = record {
-      sound = record { each = h.sound.each.1; ascend = h.sound.ascend.1 };
-      after = h.sound.ascend.0;
-      sums = λ i l. omega (arith, h.sums i l, shared i);
-    }
+    booked-rest h =
+        let k = rw from at h in
+        record {
+          sound = record { each = k.sound.each.1; ascend = k.sound.ascend.1 };
+          after = k.sound.ascend.0;
+          sums = λ i l. omega (arith, k.sums i l, shared i);
+        }
 
-    pub booked-first : Booked b.id.0 next used (taken b reserved) bs → Booked last next used reserved (b ∷ bs)
+    pub booked-first : Booked b.id.0 next used (taken b reserved) rest → Booked last next used reserved bs
     unfolding sum
-    booked-first h = record {
+    booked-first h = rw from (record {
       sound = record { each = (follows.1, h.sound.each); ascend = (h.after, h.sound.ascend) };
-      after = (follows.0, all_map (λ d. b.id.0 < d.id.0) (λ d. last < d.id.0) (λ d l. omega (arith, follows.0)) bs h.after);
+      after = (follows.0, all_map (λ d. b.id.0 < d.id.0) (λ d. last < d.id.0) (λ d l. omega (arith, follows.0)) rest h.after);
       sums = λ i l. omega (arith, h.sums i l, shared i);
-    }
+    })
 
 module _ (last next used : ℕ) (reserved : List ℕ) where
   -- with no booking left, nothing may be left
@@ -72,3 +75,11 @@ module _ (last next used : ℕ) (reserved : List ℕ) where
   pub none-booked : Booked last next used reserved [] → ZeroBelow used reserved
   unfolding sum
   none-booked h = h.sums
+
+-- the bookings from j on are the one that is loaded and the rest; past the last there is none
+module _ (base live : ℕ) (room : List ℕ) (j : ℕ) where
+  pub live-from : (b : Booking) → b ≡ booking_of (row booking_size (base + booking_size * j) room) → j < live → drop j (bookings base live room) ≡ b ∷ drop (j + 1) (bookings base live room)
+  live-from b e h = table-from booking_of booking_size base room live j h ∙ ap (λ d. d ∷ drop (j + 1) (bookings base live room)) (sym e)
+
+  pub live-end : live ≤ j → drop j (bookings base live room) ≡ []
+  live-end h = drop_of_length-le (bookings base live room) {i = j} (omega (arith, table-length booking_of booking_size base live room))

@@ -13,6 +13,10 @@ use Rattle.rules.specs.RoomAndSoundLedger.{IsByte}
 use Rattle.rules.proofs.Tests.{less-or-not}
 use Rattle.names.proofs.Words.{ClearFrom}
 use Rattle.numbers.specs.LittleEndian.{little_number}
+use Rattle.names.specs.Names.{IsStored}
+use Rattle.names.specs.declared.Name.{Name}
+use Rattle.records.specs.Rows.{row}
+use Rattle.records.proofs.Fields.{row-bytes}
 
 byte_more : (n : ℕ) → 2 ^ (8 * suc n) ≡ 2 ^ (8 * n) * 256
 byte_more n = ap (λ m. 2 ^ m) (mul-suc 8 n) ∙ pow-add 2 (8 * n) 8
@@ -49,3 +53,19 @@ module _ (k m n : ℕ) (xs : List ℕ) where
   clear-part h i low high from =
       let e : m + (i - m) ≡ i = omega arith in
       ap (λ j. get_or xs j 0) (sym e) ∙ sym (part_at (i - m) (omega arith)) ∙ h (i - m) (omega arith)
+
+-- ── a part of a name ───────────────────────────────────────────────────────────────────────────
+
+-- what is asked of the number read of a part, from the name's length on
+module _ (n : Name) (bytes : All IsByte n.bytes) (p len word from : ℕ) (same : len ≡ n.length) (read : word ≡ little_number (row 8 (8 * p) n.bytes)) (rest : from ≡ len - 8 * p) where
+  part-bytes : All IsByte (row 8 (8 * p) n.bytes)
+  part-bytes = row-bytes 8 (8 * p) n.bytes bytes
+
+  clear-from : ClearFrom (len - 8 * p) (row 8 (8 * p) n.bytes) → word < 2 ^ (8 * from)
+  clear-from h = rw (read, rest) (clear-small (len - 8 * p) (row 8 (8 * p) n.bytes) part-bytes h)
+
+  pub stored-small : IsStored n → word < 2 ^ (8 * from)
+  stored-small stored = clear-from (part-clear 8 (8 * p) len n.bytes (λ i h. stored.clear i (omega arith)))
+
+  pub small-zeros : word < 2 ^ (8 * from) → (k : ℕ) → 8 * p ≤ k → k < 8 * p + 8 → len ≤ k → get_or n.bytes k 0 ≡ 0
+  small-zeros small = clear-part 8 (8 * p) len n.bytes (small-clear (len - 8 * p) (row 8 (8 * p) n.bytes) (rw (read, rest) at small))

@@ -1,11 +1,6 @@
 -- Answers that decide something: made of a fact, of a refutation, of a test, and put to use.
-use mathlib.Core.Path.{◌≡◌, refl}
-use mathlib.Core.Logic.{◌≢◌}
-use mathlib.Core.Bool.{Bool, true, false, not}
-use Prim.Native.Nat.{ℕ, ◌≤◌, ◌<◌}
-use native.Mathlib.Omega.{arith}
-use lib.Dec.{leb, ltb, eqb}
-use borrow.Author.Tests.{leb-true, leb-false, ltb-true, ltb-false, eqb-true, eqb-false, not-true, not-false}
+use Rattle.std.proofs.Common.{◌≡◌, ◌≢◌, refl, Bool, true, false, not, ℕ, eqb}
+use borrow.Author.Tests.{eqb-true, eqb-false, not-true, not-false}
 use Rattle.rules.proofs.Tests.{true-false}
 use Rattle.soundness.specs.Facts.{Decides}
 use Rattle.soundness.specs.Steps.{Leaves}
@@ -17,25 +12,12 @@ module _ {P : Type 0} where
   pub refuse : (P → ⊥) → Decides P false
   refuse n = record { holds = λ e. true-false e refl; fails = λ _. n }
 
-  -- what a test `if !f(..)` says of the answer
-  pub refused : {r : Bool} → Decides P r → not r ≡ true → P → ⊥
-  refused d e = d.fails (not-true _ e)
-
-  pub accepted : {r : Bool} → Decides P r → not r ≡ false → P
-  accepted d e = d.holds (not-false _ e)
-
   -- an answer that is a comparison
   pub by_equal : (m n : ℕ) → (m ≡ n → P) → (P → m ≡ n) → Decides P (eqb m n)
   by_equal m n f g = record { holds = λ e. f (eqb-true m n e); fails = λ e p. eqb-false m n e (g p) }
 
   pub by-unequal : (m n : ℕ) → (m ≢ n → P) → (P → m ≢ n) → Decides P (not (eqb m n))
   by-unequal m n f g = record { holds = λ e. f (eqb-false m n (not-true _ e)); fails = λ e p. g p (eqb-true m n (not-false _ e)) }
-
-  pub by_less : (m n : ℕ) → (m < n → P) → (P → m < n) → Decides P (ltb m n)
-  by_less m n f g = record { holds = λ e. f (ltb-true m n e); fails = λ e p. let h = ltb-false m n e in let k = g p in omega arith }
-
-  pub by_most : (m n : ℕ) → (m ≤ n → P) → (P → m ≤ n) → Decides P (leb m n)
-  by_most m n f g = record { holds = λ e. f (leb-true m n e); fails = λ e p. let h = leb-false m n e in let k = g p in omega arith }
 
 -- an answer to a question that is the same
 pub by_answer : {P Q : Type 0} {r : Bool} → Decides P r → (P → Q) → (Q → P) → Decides Q r

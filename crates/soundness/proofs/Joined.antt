@@ -1,33 +1,40 @@
 -- Numbers joined by `|`: the result is zero exactly where each of them is.
-use mathlib.Core.Path.{◌≡◌, refl, sym, ap₂, subst}
-use mathlib.Core.List.{List}
-use Prim.Native.Nat.{ℕ, ◌+◌}
-use native.Mathlib.Omega.{arith}
-use borrow.Author.Count.{below_none, below_more}
-use lib.Bits.{bit_or, or_add_and, and_le_l, and_le_r}
-use lib.Dec.{eqb}
-use lib.ListN.{get_or}
+use Rattle.std.proofs.Common.{◌≡◌, refl, sym, ap₂, ◌∙◌, List, [], ◌∷◌, ℕ, zero, suc, ◌≤◌, eqb, length, get_or, take, fold, arith}
+use Rattle.std.proofs.Math.Seq.{length-take-le, get_or-take}
+use Rattle.std.specs.Int.Bits.{bit_or, or_add_and, and_le_l, and_le_r}
 use Rattle.soundness.specs.Facts.{Decides}
 use Rattle.soundness.specs.Steps.{ZeroBelow}
-use Rattle.soundness.proofs.Deciding.{by_equal}
+use Rattle.soundness.proofs.Deciding.{by_equal, by_answer}
 
--- a number that is zero exactly where the first of a list are
-pub record Joins (n joined : ℕ) (xs : List ℕ) : Type 0 where
-  pub says : joined ≡ 0 → ZeroBelow n xs
-  pub owes : ZeroBelow n xs → joined ≡ 0
+abbrev pub joined_from : ℕ → List ℕ → ℕ
+joined_from a xs = fold bit_or a xs
 
-pub joins-none : (xs : List ℕ) → Joins 0 0 xs
-joins-none xs = record { says = λ _. below_none _; owes = λ _. refl }
+-- where one of two numbers has a bit, so has what joins them
+either-zero : (a b : ℕ) → bit_or a b ≡ 0 → (a ≡ 0) × (b ≡ 0)
+either-zero a b e =
+    let sums = or_add_and a b in
+    let left = and_le_l a b in
+    let right = and_le_r a b in (omega arith, omega arith)
 
-pub joins-more : (n joined : ℕ) (xs : List ℕ) → Joins n joined xs → Joins (n + 1) (bit_or joined (get_or xs n 0)) xs
-joins-more n joined xs h =
-    let sums = or_add_and joined (get_or xs n 0) in
-    let left = and_le_l joined (get_or xs n 0) in
-    let right = and_le_r joined (get_or xs n 0) in
-    record {
-      says = λ e. below_more _ _ (h.says (omega arith)) (omega arith);
-      owes = λ z. ap₂ bit_or (h.owes (λ i below. z i (omega arith))) (z n (omega arith));
-    }
+joined-zero : (a : ℕ) (xs : List ℕ) → a ≡ 0 → ZeroBelow (length xs) xs → joined_from a xs ≡ 0
+joined-zero a [] e z = e
+joined-zero a (x ∷ xs) e z = joined-zero (bit_or a x) xs (ap₂ bit_or e (z 0 (omega arith))) (λ i l. z (suc i) (omega arith))
 
-pub joins-all : (i n joined : ℕ) (xs : List ℕ) → i ≡ n → Joins i joined xs → Decides (ZeroBelow n xs) (eqb joined 0)
-joins-all i n joined xs e h = by_equal joined 0 (λ z. subst (λ m. ZeroBelow m xs) e (h.says z)) (λ z. h.owes (subst (λ m. ZeroBelow m xs) (sym e) z))
+zero_more : (x : ℕ) (xs : List ℕ) → x ≡ 0 → ZeroBelow (length xs) xs → ZeroBelow (length (x ∷ xs)) (x ∷ xs)
+zero_more x xs e z zero l = e
+zero_more x xs e z (suc i) l = z i (omega arith)
+
+zero-joined : (a : ℕ) (xs : List ℕ) → joined_from a xs ≡ 0 → (a ≡ 0) × ZeroBelow (length xs) xs
+zero-joined a [] e = (e, λ i l. absurd (omega arith))
+zero-joined a (x ∷ xs) e =
+    let (here, below) = zero-joined (bit_or a x) xs e in
+    let both = either-zero a x here in (both.0, zero_more x xs both.1 below)
+
+pub joins-all : (xs : List ℕ) → Decides (ZeroBelow (length xs) xs) (eqb (joined_from 0 xs) 0)
+joins-all xs = by_equal (joined_from 0 xs) 0 (λ e. (zero-joined 0 xs e).1) (λ z. joined-zero 0 xs refl z)
+
+-- the first of them
+pub joins-front : (n : ℕ) (xs : List ℕ) → n ≤ length xs → Decides (ZeroBelow n xs) (eqb (joined_from 0 (take n xs)) 0)
+joins-front n xs h =
+    let width : length (take n xs) ≡ n = length-take-le n xs h in
+    by_answer (joins-all (take n xs)) (λ z i l. sym (get_or-take n xs i 0 l) ∙ z i (omega arith)) (λ z i l. get_or-take n xs i 0 (omega arith) ∙ z i (omega arith))

@@ -41,7 +41,11 @@ empty-booking = refl
 noted-at : (used : ℕ) (xs reserved : List ℕ) → Noted used xs reserved → (i : ℕ) → i < used → get_or reserved i 0 ≡ (get_or (places used xs) i empty_place).reserved
 noted-at used xs reserved noted i h = sym (get_or-take used reserved i 0 h) ∙ ap (λ l. get_or l i 0) noted ∙ get_or-map (λ p. p.reserved) (places used xs) i empty_place
 
-module _ (s : Sizes) (h : Head) (xs : List ℕ) (bytes : All IsByte xs) (sized : SizesSound s (length xs)) where
+-- the sizes and the head that were read of these bytes
+module _ (s : Sizes) (h : Head) (xs : List ℕ) (read : (s ≡ sizes_of xs) × (h ≡ head_of xs)) (bytes : All IsByte xs) (sized : SizesSound s (length xs)) where
+  known : contents_with s h xs ≡ contents_of xs
+  known = contents-with s h xs read.0 read.1
+
   abbrev base : ℕ
   base = base_of s.names
 
@@ -63,7 +67,10 @@ module _ (s : Sizes) (h : Head) (xs : List ℕ) (bytes : All IsByte xs) (sized :
   width-of-bookings : length xs - (base + booking_size * s.live) ≡ booking_size * (s.reservations - s.live)
   width-of-bookings = omega (arith, sized.size, sized.live)
 
-  module _ (tables : TablesSound (contents_with s h xs)) where
+  module _ (asked : TablesSound (contents_of xs)) where
+    tables : TablesSound (contents_with s h xs)
+    tables = subst TablesSound (sym known) asked
+
     pub places-part : PlacesSound h.baseline (places s.used xs)
     places-part = subst (PlacesSound h.baseline) used-places tables.places
 
@@ -88,9 +95,9 @@ module _ (s : Sizes) (h : Head) (xs : List ℕ) (bytes : All IsByte xs) (sized :
 
   pub of_parts : (reserved : List ℕ) → Noted s.used xs reserved
       → PlacesSound h.baseline (places s.used xs) → ZeroBelow (length unused_places) unused_places → Booked 0 h.next_id s.used reserved (bookings base s.live xs) → ZeroBelow (length unused_bookings) unused_bookings
-      → TablesSound (contents_with s h xs)
+      → TablesSound (contents_of xs)
   of_parts reserved noted sound zero booked zero' =
-      record {
+      subst TablesSound known (record {
         places = subst (PlacesSound h.baseline) (sym used-places) sound;
         unused_places =
             cleared place_of place_bytes place_size bytes-of-place head_size s.used s.names xs bytes sized.used (omega (arith, sized.size)) (subst (λ n. ZeroBelow (length (row n (place_start s.used) xs)) (row n (place_start s.used) xs)) width-of-places zero)
@@ -100,4 +107,4 @@ module _ (s : Sizes) (h : Head) (xs : List ℕ) (bytes : All IsByte xs) (sized :
         unused_bookings =
             cleared booking_of booking_bytes booking_size bytes-of-booking base s.live s.reservations xs bytes sized.live (omega (arith, sized.size)) (subst (λ n. ZeroBelow (length (row n (base + booking_size * s.live) xs)) (row n (base + booking_size * s.live) xs)) width-of-bookings zero')
             ∙ ap (replicate (s.reservations - s.live)) empty-booking;
-      }
+      })

@@ -12,6 +12,7 @@ use Rattle.rules.proofs.Names.{order_trans}
 use Rattle.names.specs.Names.{spelled}
 use Rattle.records.specs.Layout.{place_size, head_size}
 use Rattle.records.specs.Records.{place_of, places}
+use Rattle.records.specs.declared.Place.{Place}
 use Rattle.room.specs.Contents.{NameBefore}
 use Rattle.soundness.specs.Facts.{PlaceSound, PlacesSound}
 use Rattle.soundness.specs.Steps.{place_at, NameFollows, Noted}
@@ -38,9 +39,6 @@ module _ (xs : List ℕ) where
   pub place-more : (i : ℕ) → places (i + 1) xs ≡ places i xs ++ place_at i xs ∷ []
   place-more i = table_more place_of place_size head_size xs i
 
-  pub sound_more : (i : ℕ) → All PlaceSound (places i xs) → PlaceSound (place_at i xs) → All PlaceSound (places (i + 1) xs)
-  sound_more i h p = subst (All PlaceSound) (sym (place-more i)) (all_more PlaceSound (places i xs) (place_at i xs) h p)
-
   pub ascend-more : (i : ℕ) → Pairwise NameBefore (places i xs) → NameFollows i xs → Pairwise NameBefore (places (i + 1) xs)
   ascend-more zero h f = (tt, tt)
   ascend-more (suc i) h f =
@@ -50,18 +48,26 @@ module _ (xs : List ℕ) where
       (pairwise-next NameBefore (λ p q r. order_trans (spelled p.name) (spelled q.name) (spelled r.name)) (places i xs) (place_at i xs) (place_at (suc i) xs)
       (subst (Pairwise NameBefore) e h) (subst (λ j. NameBefore (place_at j xs) (place_at (suc i) xs)) before (f (omega arith))))
 
-  pub left-more : (base left i : ℕ) → left ≡ base - committed_by i xs → left - (place_at i xs).committed ≡ base - committed_by (i + 1) xs
-  left-more base left i e = omega (arith, ap (sum (λ p. p.committed)) (place-more i) ∙ sum_more (λ p. p.committed) (places i xs) (place_at i xs))
+  -- the place that was loaded
+  module _ (i : ℕ) (p : Place) (loaded : p ≡ place_at i xs) where
+    loaded-more : places (i + 1) xs ≡ places i xs ++ p ∷ []
+    loaded-more = place-more i ∙ ap (λ q. places i xs ++ q ∷ []) (sym loaded)
 
-  pub noted_more : (i : ℕ) (reserved : List ℕ) → i < length reserved → Noted i xs reserved → Noted (i + 1) xs (set reserved i (place_at i xs).reserved)
-  noted_more i reserved h e =
-      ap (λ n. take n (set reserved i (place_at i xs).reserved)) (add-one i) ∙ take-suc-set reserved i (place_at i xs).reserved h ∙ ap (λ l. l ++ (place_at i xs).reserved ∷ []) e
-      ∙ sym (ap (map (λ p. p.reserved)) (place-more i) ∙ map-append (λ p. p.reserved) (places i xs) (place_at i xs ∷ []))
+    pub sound_more : All PlaceSound (places i xs) → PlaceSound p → All PlaceSound (places (i + 1) xs)
+    sound_more h here = rw loaded-more (all_more PlaceSound (places i xs) p h here)
 
-  -- what sound places say of the one at i, and of its name
-  module _ (base used i : ℕ) (sound : PlacesSound base (places used xs)) (h : i < used) where
-    pub place-sound : PlaceSound (place_at i xs)
-    place-sound = table-all place_of place_size head_size xs PlaceSound used i sound.each h
+    pub left-more : (base left : ℕ) → left ≡ base - committed_by i xs → left - p.committed ≡ base - committed_by (i + 1) xs
+    left-more base left e = omega (arith, ap (sum (λ p. p.committed)) loaded-more ∙ sum_more (λ p. p.committed) (places i xs) p)
 
-    pub name-follows : NameFollows i xs
-    name-follows l = table-pairs place_of place_size head_size xs NameBefore used (i - 1) i sound.ascend (omega arith) h
+    pub noted_more : (reserved : List ℕ) → i < length reserved → Noted i xs reserved → Noted (i + 1) xs (set reserved i p.reserved)
+    noted_more reserved h e =
+        ap (λ n. take n (set reserved i p.reserved)) (add-one i) ∙ take-suc-set reserved i p.reserved h ∙ ap (λ l. l ++ p.reserved ∷ []) e
+        ∙ sym (ap (map (λ p. p.reserved)) loaded-more ∙ map-append (λ p. p.reserved) (places i xs) (p ∷ []))
+
+    -- what sound places say of it, and of its name
+    module _ (base used : ℕ) (sound : PlacesSound base (places used xs)) (h : i < used) where
+      pub place-sound : PlaceSound p
+      place-sound = rw loaded (table-all place_of place_size head_size xs PlaceSound used i sound.each h)
+
+      pub name-follows : NameFollows i xs
+      name-follows l = table-pairs place_of place_size head_size xs NameBefore used (i - 1) i sound.ascend (omega arith) h

@@ -17,6 +17,3 @@ facts-are-soundness xs bytes = (facts-sound xs bytes, sound-facts xs)
 -- an answer about the facts is an answer about the room
 pub decides-soundness : (xs : List ℕ) (r : Bool) → All IsByte xs → Decides (RoomFacts xs) r → Decides (SoundRoom xs) r
 decides-soundness xs r bytes d = record { holds = λ e. facts-sound xs bytes (d.holds e); fails = λ e room. d.fails e (sound-facts xs room) }
-
-pub decided : (xs : List ℕ) (r : Bool) → All IsByte xs → Decides (RoomFacts xs) r → (r ≡ true → SoundRoom xs) × (r ≡ false → SoundRoom xs → ⊥)
-decided xs r bytes d = let s = decides-soundness xs r bytes d in (s.holds, s.fails)

@@ -4,7 +4,7 @@
 #![tactic(auto)]
 
 ghost use Rattle.std.specs.Prelude.{◌≡◌, true, false, ◌+◌, ◌-◌, ◌*◌, ◌^◌, ◌≤◌, ◌<◌, length, replicate};
-ghost use Rattle.rules.specs.RoomAndSoundLedger.{M, InRange, is_vacant, made};
+ghost use Rattle.rules.specs.RoomAndSoundLedger.{M, is_vacant, made};
 ghost use Rattle.names.specs.Names.{IsStored};
 ghost use Rattle.moves.specs.Moves.{meaning, SeatSound};
 ghost use Rattle.records.specs.Layout.{place_start, place_size, booking_size};
@@ -28,107 +28,61 @@ const MOST_RESERVATIONS: u64 = rules::MOST_RESERVATIONS as u64;
 
 const LONGEST_NAME: u64 = rules::LONGEST_NAME as u64;
 
-fn in_range(value: u64, low: u64, high: u64) -> bool
-    ensures { Decides (InRange low high value) result }
-{
-    if value < low {
-        return false;
-    }
-    value <= high
-}
-
 // "T and R are in range", no more is in use than there is room for, and the memory is of just that size.
 fn sizes_sound(sizes: Sizes, bytes: usize) -> bool
     ensures { Decides (SizesSound sizes bytes) result }
 {
-    if !in_range(sizes.names, 1, MOST_NAMES) {
-        return false;
-    }
-    if !in_range(sizes.reservations, 1, MOST_RESERVATIONS) {
-        return false;
-    }
-    if sizes.names < sizes.used {
-        return false;
-    }
-    if sizes.reservations < sizes.live {
-        return false;
-    }
-    bytes
-        == records::HEAD_SIZE
-            + records::PLACE_SIZE * (sizes.names as usize)
-            + records::BOOKING_SIZE * (sizes.reservations as usize)
+    (1..=MOST_NAMES).contains(&sizes.names)
+        && (1..=MOST_RESERVATIONS).contains(&sizes.reservations)
+        && sizes.used <= sizes.names
+        && sizes.live <= sizes.reservations
+        && bytes
+            == records::HEAD_SIZE
+                + records::PLACE_SIZE * (sizes.names as usize)
+                + records::BOOKING_SIZE * (sizes.reservations as usize)
 }
 
 // Document 01, Room and the sound ledger: no version yet, or one that is tagged and has a fence.
 fn version_sound(version: u64) -> bool
     ensures { Decides (VersionSound version) result }
 {
-    if version == 0 {
-        return true;
-    }
-    if !big_endian::has_tag(version) {
-        return false;
-    }
-    big_endian::fence_of(version) != 0
+    version == 0 || big_endian::has_tag(version) && big_endian::fence_of(version) != 0
 }
 
 // "next id is 1 to M"; the baseline is at most M.
+#[tactic(auto, unfolding(rules::specs::RoomAndSoundLedger::M))]
 fn head_sound(head: Head) -> bool
     ensures { Decides (HeadSound head) result }
 {
-    if !in_range(head.next_id, 1, rules::M) {
-        return false;
-    }
-    if rules::M < head.baseline {
-        return false;
-    }
-    version_sound(head.last_version)
+    (1..=rules::M).contains(&head.next_id)
+        && head.baseline <= rules::M
+        && version_sound(head.last_version)
 }
 
 // Document 01, Room and the sound ledger, the amounts of an account: by differences, so that no sum can wrap.
+#[tactic(auto, unfolding(rules::specs::RoomAndSoundLedger::M))]
 fn adds_up(place: Place) -> bool
     ensures { Decides ((place.remaining + place.reserved + place.committed ≡ place.initial) × (place.initial ≤ M)) result }
 {
-    if rules::M < place.initial {
-        return false;
-    }
-    if place.initial < place.remaining {
-        return false;
-    }
-    let held = place.initial - place.remaining;
-    if held < place.reserved {
-        return false;
-    }
-    held - place.reserved == place.committed
+    let left = place
+        .initial
+        .checked_sub(place.remaining)
+        .and_then(|held| held.checked_sub(place.reserved));
+    place.initial <= rules::M && left == Some(place.committed)
 }
 
 // Document 01, Room and the sound ledger, a name that has only a limit: amounts that add up to zero are zero.
 fn amounts_sound(place: Place) -> bool
     ensures { Decides (SeatSound (seat_of_place place) × (is_vacant (meaning (seat_of_place place)) ≡ false)) result }
 {
-    if rules::M < place.limit {
+    if rules::M < place.limit || !adds_up(place) {
         return false;
     }
-    if !adds_up(place) {
-        return false;
+    match place.account {
+        0 => place.initial == 0 && place.limit != 0,
+        1 => true,
+        _ => false,
     }
-    if place.account != 0 {
-        return place.account == 1;
-    }
-    if place.initial != 0 {
-        return false;
-    }
-    place.limit != 0
-}
-
-// What is left of a number; nothing, where more is taken from it.
-fn less(number: u64, taken: u64) -> u64
-    ensures { result ≡ number - taken }
-{
-    if number < taken {
-        return 0;
-    }
-    number - taken
 }
 
 // One pass over the places: each is sound, names ascend, the committed total reaches the baseline; what each has reserved is noted.
@@ -139,21 +93,13 @@ fn places_sound(room: &[u8], used: usize, baseline: u64, reserved: &mut [u64]) -
     ensures noted { result ≡ true → Noted used room.now reserved.new }
 {
     let mut left = baseline;
-    let mut i = 0;
-    while i < used {
+    for i in 0..used {
         let place = records::load_place(room, i);
-        if !amounts_sound(place) {
+        if !amounts_sound(place) || !name_sound(room, i) || !ascends(room, i) {
             return false;
         }
-        if !name_sound(room, i) {
-            return false;
-        }
-        if !ascends(room, i) {
-            return false;
-        }
-        left = less(left, place.committed);
+        left = left.saturating_sub(place.committed);
         reserved[i] = place.reserved;
-        i += 1;
     }
     left == 0
 }
@@ -182,10 +128,7 @@ fn name_part(room: &[u8], i: usize, part: usize) -> &[u8]
 fn is_clear(word: u64, from: u64) -> bool
     ensures { Decides (word < 2 ^ (8 * from)) result }
 {
-    if 8 <= from {
-        return true;
-    }
-    word >> (8 * from) == 0
+    8 <= from || word >> (8 * from) == 0
 }
 
 // "bytes past the length zero"
@@ -197,13 +140,11 @@ fn name_sound(room: &[u8], i: usize) -> bool
     if LONGEST_NAME < length {
         return false;
     }
-    let mut part = 0;
-    while part < 3 {
+    for part in 0..3 {
         let word = numbers::read8(name_part(room, i, part));
-        if !is_clear(word, less(length, 8 * (part as u64))) {
+        if !is_clear(word, length.saturating_sub(8 * (part as u64))) {
             return false;
         }
-        part += 1;
     }
     true
 }
@@ -218,40 +159,23 @@ fn ascends(room: &[u8], i: usize) -> bool
     if i == 0 {
         return true;
     }
-    let before = records::load_place(room, i - 1);
-    let here = records::load_place(room, i);
-    let earlier = before.name;
-    let later = here.name;
+    let earlier = records::load_place(room, i - 1).name;
+    let later = records::load_place(room, i).name;
     names::precedes(earlier, later)
 }
 
-// "room not in use is zero". All bytes are joined and the result is asked once: a loop without a way out compiles to steps of many bytes.
+// "room not in use is zero". All bytes are joined and the result is asked once: a fold without a way out compiles to steps of many bytes.
 fn is_zero(part: &[u8]) -> bool
     ensures { Decides (ZeroBelow (length part.now) part.now) result }
 {
-    let mut joined = 0u8;
-    let mut i = 0;
-    while i < part.len() {
-        joined = joined | part[i];
-        i += 1;
-    }
-    joined == 0
+    part.iter().fold(0, |joined, byte| joined | *byte) == 0
 }
 
 // A live booking: an id past the one before it and below next id, an amount that is not 0, and for its owner a place in use.
 fn booking_sound(booking: Booking, last: u64, next_id: u64, used: u64) -> bool
     ensures { Decides (Follows last next_id used booking) result }
 {
-    if booking.id.0 <= last {
-        return false;
-    }
-    if next_id <= booking.id.0 {
-        return false;
-    }
-    if booking.amount.0 == 0 {
-        return false;
-    }
-    booking.owner < used
+    last < booking.id.0 && booking.id.0 < next_id && booking.amount.0 != 0 && booking.owner < used
 }
 
 // One pass over the bookings: each takes its amount out of what its owner has reserved. A place without an account has nothing reserved, so a
@@ -268,21 +192,18 @@ fn bookings_sound(
     ensures { Leaves (Booked 0 next_id sizes.used reserved.old (bookings base sizes.live room.now))
         (ZeroBelow sizes.used reserved.new) result }
 {
-    let live = sizes.live as usize;
     let mut last = 0;
-    let mut j = 0;
-    while j < live {
+    for j in 0..sizes.live as usize {
         let booking = records::load_booking(room, base, j);
         if !booking_sound(booking, last, next_id, sizes.used) {
             return false;
         }
         let owner = booking.owner as usize;
-        if reserved[owner] < booking.amount.0 {
+        let Some(left) = reserved[owner].checked_sub(booking.amount.0) else {
             return false;
-        }
-        reserved[owner] = reserved[owner] - booking.amount.0;
+        };
+        reserved[owner] = left;
         last = booking.id.0;
-        j += 1;
     }
     true
 }
@@ -292,13 +213,10 @@ fn nothing_left(reserved: &[u64], used: usize) -> bool
     requires { used ≤ length reserved.now }
     ensures { Decides (ZeroBelow used reserved.now) result }
 {
-    let mut joined = 0u64;
-    let mut i = 0;
-    while i < used {
-        joined = joined | reserved[i];
-        i += 1;
-    }
-    joined == 0
+    reserved[..used]
+        .iter()
+        .fold(0, |joined, left| joined | *left)
+        == 0
 }
 
 // The tables of a room whose sizes and head are sound.
@@ -312,19 +230,11 @@ fn tables_sound(room: &[u8], sizes: Sizes, head: Head) -> bool
     let unused_places = records::HEAD_SIZE + records::PLACE_SIZE * used;
     let unused_bookings = base + records::BOOKING_SIZE * (sizes.live as usize);
     let mut reserved = [0u64; rules::MOST_NAMES];
-    if !places_sound(room, used, head.baseline, &mut reserved) {
-        return false;
-    }
-    if !is_zero(&room[unused_places..base]) {
-        return false;
-    }
-    if !bookings_sound(room, base, sizes, head.next_id, &mut reserved) {
-        return false;
-    }
-    if !is_zero(&room[unused_bookings..]) {
-        return false;
-    }
-    nothing_left(&reserved, used)
+    places_sound(room, used, head.baseline, &mut reserved)
+        && is_zero(&room[unused_places..base])
+        && bookings_sound(room, base, sizes, head.next_id, &mut reserved)
+        && is_zero(&room[unused_bookings..])
+        && nothing_left(&reserved, used)
 }
 
 // The sizes come first: only where they are sound do the tables lie within the room.
@@ -336,13 +246,7 @@ fn check(room: &[u8]) -> bool
     }
     let sizes = records::load_sizes(room);
     let head = records::load_head(room);
-    if !sizes_sound(sizes, room.len()) {
-        return false;
-    }
-    if !head_sound(head) {
-        return false;
-    }
-    tables_sound(room, sizes, head)
+    sizes_sound(sizes, room.len()) && head_sound(head) && tables_sound(room, sizes, head)
 }
 
 // Whether lent memory is the room of a sound ledger: exactly that, for any bytes.
@@ -362,17 +266,6 @@ pub fn expect_sound(room: &[u8]) -> Result<(), Refusal>
     Ok(())
 }
 
-// What stood there is overwritten whole: "room not in use is zero".
-fn clear(room: &mut [u8])
-    ensures { room.new ≡ replicate (length room.old) 0 }
-{
-    let mut i = 0;
-    while i < room.len() {
-        room[i] = 0;
-        i += 1;
-    }
-}
-
 // A fresh ledger (document 01, Room and the sound ledger): over zeros only the sizes and the next id are left to write.
 pub fn make(room: &mut [u8], names: u64, reservations: u64) -> Result<(), Refusal>
     ensures { Makes (made_in room.old (made names reservations)) room.old (answer_of carries_nothing result) room.new }
@@ -386,7 +279,7 @@ pub fn make(room: &mut [u8], names: u64, reservations: u64) -> Result<(), Refusa
     if !sizes_sound(sizes, room.len()) {
         return Err(Refusal::UnsoundLedger);
     }
-    clear(room);
+    room.fill(0);
     records::store_sizes(room, sizes);
     let head = Head {
         next_id: 1,

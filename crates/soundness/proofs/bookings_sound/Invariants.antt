@@ -1,8 +1,6 @@
 -- `soundness::bookings_sound` meets its contract. The invariant: the bookings as a whole take what was reserved exactly if those from j on take
 -- what is left.
-use mathlib.Core.Path.{◌≡◌}
-use Prim.Native.Nat.{◌-◌, ◌≤◌}
-use lib.ListN.{length, drop}
+use Rattle.std.proofs.Common.{drop}
 use Rattle.records.specs.Records.{bookings}
 use Rattle.soundness.specs.Steps.{Booked}
 use Rattle.soundness.proofs.bookings_sound.Given as goal
@@ -10,8 +8,4 @@ use Rattle.soundness.proofs.bookings_sound.Given as goal
 abbrev pub invariant-loop-j : goal.invariant-loop-j
 invariant-loop-j l =
     let whole = Booked 0 l.next_id l.sizes.used l.initial.reserved (bookings l.base l.sizes.live l.room) in
-    let rest = Booked l.last l.next_id l.sizes.used l.reserved (drop l.j (bookings l.base l.sizes.live l.room)) in
-    (l.j ≤ l.live) × (length l.reserved ≡ length l.initial.reserved) × (whole → rest) × (rest → whole)
-
-abbrev pub decreases-loop-j : goal.decreases-loop-j
-decreases-loop-j l = l.live - l.j
+    let rest = Booked l.last l.next_id l.sizes.used l.reserved (drop l.j (bookings l.base l.sizes.live l.room)) in record { needed : whole → rest; suffices : rest → whole }

@@ -4,6 +4,4 @@ use Rattle.soundness.proofs.Sound.{decides-soundness}
 use Rattle.soundness.proofs.is_sound.Goals as goal
 
 pub returns : goal.returns
-returns c =
-    let room = c.args.room.now in
-    decides-soundness room c.check.result (all-bytes room c.shared_slice_known-1.given) c.check.ensures
+returns c = decides-soundness c.args.room.now c.check.result (all-bytes c.args.room.now c.type_inv.room) c.check.ensures

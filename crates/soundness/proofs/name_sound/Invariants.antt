@@ -1,13 +1,8 @@
 -- `soundness::name_sound` meets its contract: the invariant is that the bytes past the length are zero in the parts passed. A part is zero from a byte on
 -- just where its little-endian number is that small (ClearBytes).
-use mathlib.Core.Path.{◌≡◌}
-use Prim.Native.Nat.{ℕ, ◌-◌, ◌*◌, ◌≤◌, ◌<◌}
-use lib.ListN.{get_or}
+use Rattle.std.proofs.Common.{◌≡◌, ℕ, ◌*◌, ◌≤◌, ◌<◌, get_or}
 use Rattle.soundness.specs.Steps.{place_at}
 use Rattle.soundness.proofs.name_sound.Given as goal
 
 abbrev pub invariant-loop-part : goal.invariant-loop-part
-invariant-loop-part l = (l.part ≤ 3) × ((k : ℕ) → k < 8 * l.part → l.length ≤ k → get_or (place_at l.i l.room).name.bytes k 0 ≡ 0)
-
-abbrev pub decreases-loop-part : goal.decreases-loop-part
-decreases-loop-part l = 3 - l.part
+invariant-loop-part l = (k : ℕ) → k < 8 * l.part → l.length ≤ k → get_or (place_at l.i l.room).name.bytes k 0 ≡ 0
