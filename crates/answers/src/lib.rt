@@ -7,6 +7,7 @@ ghost use Rattle.rules.specs.AnswerNumbers.{Value, done, reply_of};
 ghost use Rattle.refusals.specs.Answers.{refusal_of, answer_of, carries_nothing};
 ghost use Rattle.accounts.specs.Answers.{carries_top_up};
 ghost use Rattle.reservations.specs.Answers.{carries_grant, carries_commit, carries_release};
+ghost use Rattle.certificates.specs.Certified.{carries_certificate, carries_proof};
 ghost use Rattle.answer_bytes.specs.Sizes.{longest_other_answer};
 ghost use Rattle.answer_bytes.specs.Writing.{WritesReply};
 
@@ -16,6 +17,7 @@ use answer_bytes::{
     write_two_words, write_word,
 };
 use big_endian::word_of;
+use certificates::{Certificate, Proof};
 use refusals::Refusal;
 use reservations::{Committed, Granted, Released};
 
@@ -71,6 +73,41 @@ impl Carried for Released {
 
     fn write(self, output: &mut [u8]) -> usize {
         write_two_words(output, 0, word_of(self.remaining), word_of(self.amount))
+    }
+}
+
+impl Carried for Certificate {
+    ghost carried = { carries_certificate };
+
+    fn write(self, output: &mut [u8]) -> usize {
+        answer_bytes::write_certificate(
+            output,
+            self.version,
+            self.rows,
+            self.active,
+            u8::from(self.balanced),
+            word_of(self.initial_total),
+            word_of(self.committed_total),
+            u8::from(self.representable),
+            word_of(self.since),
+        )
+    }
+}
+
+// A proof that is handed out says yes.
+impl Carried for Proof {
+    ghost carried = { carries_proof };
+
+    fn write(self, output: &mut [u8]) -> usize {
+        answer_bytes::write_proof(
+            output,
+            self.version,
+            self.accounts,
+            self.active,
+            word_of(self.initial_total),
+            word_of(self.committed_total),
+            1,
+        )
     }
 }
 

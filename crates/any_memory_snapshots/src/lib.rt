@@ -3,119 +3,90 @@
 
 #![tactic(auto)]
 
-ghost use Rattle.std.specs.Prelude.{◌≡◌, length};
+ghost use Rattle.std.specs.Prelude.{◌≡◌, ◌≤◌, length, IfOk};
 ghost use Rattle.rules.specs.SnapshotsMigrationCertificates.{snapshot_of_bytes, snapshot, restore, recovery_restore, migrate, status, certificate_of_snapshot, certificate_of_ledger, conservation_proof, output_after};
+ghost use Rattle.refusals.specs.Answers.{answer_of, carries_nothing, carries_snapshot};
 ghost use Rattle.room.specs.Room.{Answers};
-ghost use Rattle.validation.specs.Judgement.{judged_reply, InStoredForm};
-ghost use Rattle.snapshot_writer.specs.Output.{snapshot_reply, SizeWithin};
-ghost use Rattle.migration.specs.Migrated.{migrated_reply};
-ghost use Rattle.certificates.specs.Certified.{certified_reply, proved_reply};
+ghost use Rattle.certificates.specs.Certified.{carries_certificate, carries_proof};
 ghost use Rattle.any_memory_snapshots.specs.Supplied.{AnswersSnapshot, FirstCheck, on_supplied};
 
-use certificates::{Certified, Proved};
+use certificates::{Certificate, Proof};
 use numbers::Microcents;
-use snapshot_writer::Snapshotted;
-use validation::{Judged, Verdict};
+use refusals::Refusal;
 
 // One pass over the places to write them, and one to measure them where the output might be too short.
-pub fn snapshot(room: &mut [u8], output: &mut [u8]) -> Snapshotted
-    ensures answers { Answers (snapshot (length output.old)) room.old (snapshot_reply output.new result) room.new }
-    ensures output { output.new ≡ output_after (snapshot_reply output.new result) output.old }
-    ensures size { SizeWithin (length output.old) result }
+pub fn snapshot(room: &mut [u8], output: &mut [u8]) -> Result<usize, Refusal>
+    ensures answers { Answers (snapshot (length output.old)) room.old (answer_of (carries_snapshot output.new) result) room.new }
+    ensures output { output.new ≡ output_after (answer_of (carries_snapshot output.new) result) output.old }
+    ensures size { IfOk result (λ size. size ≤ length output.old) }
 {
-    if !soundness::is_sound(room) {
-        return Snapshotted::UnsoundLedger;
-    }
+    soundness::expect_sound(room)?;
     snapshot_writer::snapshot(room, output)
 }
 
 // 23 before 24: one pass over the bytes and, where they are a snapshot, one over the memory.
-fn first_check(room: &[u8], bytes: &[u8]) -> Verdict
+fn first_check(room: &[u8], bytes: &[u8]) -> Result<(), Refusal>
     ensures { FirstCheck bytes.now room.now result }
 {
-    if !snapshot_reader::is_snapshot(bytes) {
-        return Verdict::BadFrame;
-    }
-    if !soundness::is_sound(room) {
-        return Verdict::UnsoundLedger;
-    }
-    Verdict::Done
+    snapshot_reader::expect_snapshot(bytes)?;
+    soundness::expect_sound(room)
 }
 
 // One pass over the bytes to read them, three to judge them, in one of which each name is compared with those before it, and one to put the rows.
-pub fn restore(room: &mut [u8], bytes: &[u8]) -> Judged
-    ensures answers { AnswersSnapshot restore (snapshot_of_bytes bytes.now) room.old (judged_reply result) room.new }
-    ensures form { InStoredForm result }
+pub fn restore(room: &mut [u8], bytes: &[u8]) -> Result<(), Refusal>
+    ensures { AnswersSnapshot restore (snapshot_of_bytes bytes.now) room.old (answer_of carries_nothing result) room.new }
 {
-    let first = first_check(room, bytes);
-    let Verdict::Done = first else {
-        return validation::nameless(first);
-    };
+    first_check(room, bytes)?;
     restoring::restore(room, bytes)
 }
 
 // As a restore.
-pub fn recovery_restore(room: &mut [u8], bytes: &[u8]) -> Judged
-    ensures answers { AnswersSnapshot recovery_restore (snapshot_of_bytes bytes.now) room.old (judged_reply result) room.new }
-    ensures form { InStoredForm result }
+pub fn recovery_restore(room: &mut [u8], bytes: &[u8]) -> Result<(), Refusal>
+    ensures { AnswersSnapshot recovery_restore (snapshot_of_bytes bytes.now) room.old (answer_of carries_nothing result) room.new }
 {
-    let first = first_check(room, bytes);
-    let Verdict::Done = first else {
-        return validation::nameless(first);
-    };
+    first_check(room, bytes)?;
     restoring::recovery_restore(room, bytes)
 }
 
 // One pass to read the bytes, three to judge them, one to copy them.
-pub fn migrate(bytes: &[u8], fence: u64, output: &mut [u8]) -> Judged
-    ensures answer { migrated_reply (length bytes.now) output.new result
+pub fn migrate(bytes: &[u8], fence: u64, output: &mut [u8]) -> Result<usize, Refusal>
+    ensures answer { answer_of (carries_snapshot output.new) result
         ≡ on_supplied (migrate (length output.old) fence) (snapshot_of_bytes bytes.now) }
-    ensures output { output.new ≡ output_after (migrated_reply (length bytes.now) output.new result) output.old }
-    ensures form { InStoredForm result }
+    ensures output { output.new ≡ output_after (answer_of (carries_snapshot output.new) result) output.old }
+    ensures size { IfOk result (λ size. (size ≡ length bytes.now) × (size ≤ length output.old)) }
 {
-    if !snapshot_reader::is_snapshot(bytes) {
-        return validation::nameless(Verdict::BadFrame);
-    }
+    snapshot_reader::expect_snapshot(bytes)?;
     migration::migrate(bytes, fence, output)
 }
 
 // Whether a supplied snapshot balances: three passes over the bytes.
-pub fn status(bytes: &[u8]) -> Judged
-    ensures answer { judged_reply result ≡ on_supplied status (snapshot_of_bytes bytes.now) }
-    ensures form { InStoredForm result }
+pub fn status(bytes: &[u8]) -> Result<(), Refusal>
+    ensures { answer_of carries_nothing result ≡ on_supplied status (snapshot_of_bytes bytes.now) }
 {
-    if !snapshot_reader::is_snapshot(bytes) {
-        return validation::nameless(Verdict::BadFrame);
-    }
+    snapshot_reader::expect_snapshot(bytes)?;
     validation::status(bytes)
 }
 
 // Two passes over the places.
-pub fn certificate(room: &mut [u8]) -> Certified
-    ensures { Answers certificate_of_ledger room.old (certified_reply result) room.new }
+pub fn certificate(room: &mut [u8]) -> Result<Certificate, Refusal>
+    ensures { Answers certificate_of_ledger room.old (answer_of carries_certificate result) room.new }
 {
-    if !soundness::is_sound(room) {
-        return Certified::UnsoundLedger;
-    }
+    soundness::expect_sound(room)?;
     certificates::of_ledger(room)
 }
 
 // Four passes over the bytes.
-pub fn certificate_of_snapshot(bytes: &[u8], since: Microcents) -> Certified
-    ensures { certified_reply result ≡ on_supplied (certificate_of_snapshot since.0) (snapshot_of_bytes bytes.now) }
+pub fn certificate_of_snapshot(bytes: &[u8], since: Microcents) -> Result<Certificate, Refusal>
+    ensures { answer_of carries_certificate result ≡ on_supplied (certificate_of_snapshot since.0) (snapshot_of_bytes bytes.now) }
 {
-    if !snapshot_reader::is_snapshot(bytes) {
-        return Certified::BadFrame;
-    }
+    snapshot_reader::expect_snapshot(bytes)?;
     certificates::of_supplied(bytes, since)
 }
 
 // Two passes over the places.
-pub fn conservation_proof(room: &mut [u8]) -> Proved
-    ensures { Answers conservation_proof room.old (proved_reply result) room.new }
+pub fn conservation_proof(room: &mut [u8]) -> Result<Proof, Refusal>
+    ensures { Answers conservation_proof room.old (answer_of carries_proof result) room.new }
 {
-    if !soundness::is_sound(room) {
-        return Proved::UnsoundLedger;
-    }
+    soundness::expect_sound(room)?;
     certificates::prove(room)
 }

@@ -1,3 +1,1 @@
 pub mod BigEndian
-pub mod Words
-pub mod TwosComplement

@@ -9,73 +9,49 @@ ghost use Rattle.rules.specs.SnapshotsMigrationCertificates.{bytes_of, number_of
 
 use numbers::Microcents;
 
-// Bit 63, which is 2^63; and the least amount, which is as far below 0.
+// Bit 63, which is 2^63.
 pub const TAG: u64 = rules::M + 1;
 
-pub const LEAST: i64 = -(rules::M as i64) - 1;
-
-// Bytes are joined by `|` and shifts, and parted by division.
 pub fn read8(bytes: &[u8]) -> u64
     requires { length bytes.now ≡ 8 }
     ensures { result ≡ number_of bytes.now }
 {
-    (bytes[7] as u64)
-        | ((bytes[6] as u64) << 8)
-        | ((bytes[5] as u64) << 16)
-        | ((bytes[4] as u64) << 24)
-        | ((bytes[3] as u64) << 32)
-        | ((bytes[2] as u64) << 40)
-        | ((bytes[1] as u64) << 48)
-        | ((bytes[0] as u64) << 56)
+    u64::from_be_bytes(numbers::array_of(bytes))
 }
 
 pub fn write8(bytes: &mut [u8], number: u64)
     requires { length bytes.old ≡ 8 }
     ensures { bytes.new ≡ bytes_of 8 number }
 {
-    bytes[0] = (number / 0x100_0000_0000_0000 % 256) as u8;
-    bytes[1] = (number / 0x1_0000_0000_0000 % 256) as u8;
-    bytes[2] = (number / 0x100_0000_0000 % 256) as u8;
-    bytes[3] = (number / 0x1_0000_0000 % 256) as u8;
-    bytes[4] = (number / 0x100_0000 % 256) as u8;
-    bytes[5] = (number / 0x1_0000 % 256) as u8;
-    bytes[6] = (number / 0x100 % 256) as u8;
-    bytes[7] = (number % 256) as u8;
+    bytes.copy_from_slice(&number.to_be_bytes());
 }
 
 pub fn read2(bytes: &[u8]) -> u64
     requires { length bytes.now ≡ 2 }
     ensures { result ≡ number_of bytes.now }
 {
-    (bytes[1] as u64) | ((bytes[0] as u64) << 8)
+    u64::from(u16::from_be_bytes(numbers::array_of(bytes)))
 }
 
+// Of a number that two bytes do not hold, the lower two are written.
 pub fn write2(bytes: &mut [u8], number: u64)
     requires { length bytes.old ≡ 2 }
     ensures { bytes.new ≡ bytes_of 2 number }
 {
-    bytes[0] = (number / 0x100 % 256) as u8;
-    bytes[1] = (number % 256) as u8;
+    bytes.copy_from_slice(&number.to_be_bytes()[6..]);
 }
 
-// Two's complement: a cast must fit, so the upper half is brought down first.
+// Two's complement: the bits stay as they are.
 pub fn signed(word: u64) -> Microcents
     ensures { result.0 ≡ signed word }
 {
-    if word < TAG {
-        return Microcents(word as i64);
-    }
-    Microcents((word - TAG) as i64 + LEAST)
+    Microcents(word.cast_signed())
 }
 
 pub fn word_of(amount: Microcents) -> u64
     ensures { result ≡ twos_complement amount.0 }
 {
-    let x = amount.0;
-    if 0 <= x {
-        return x as u64;
-    }
-    (x - LEAST) as u64 + TAG
+    amount.0.cast_unsigned()
 }
 
 pub fn read_amount(bytes: &[u8]) -> Microcents
@@ -106,6 +82,7 @@ pub fn fence_of(version: u64) -> u64
 }
 
 // The version that carries a fence.
+#[tactic(auto, unfolding(rules::specs::RoomAndSoundLedger::M))]
 pub fn tagged(fence: u64) -> u64
     requires { fence ≤ M }
     ensures { result ≡ tagged fence }

@@ -1,23 +1,12 @@
 // Line after line, and what each is answered.
-ghost use Rattle.std.specs.Prelude.{◌≡◌, ◌<◌, min};
+ghost use Rattle.std.specs.Prelude.{◌<◌};
 
 use crate::lent;
 use crate::lent::Lent;
 use answer_bytes::LONGEST_OTHER_ANSWER;
-use any_memory_accounts::Versioned;
 use case_text::text::Numbers;
 use case_text::{shown, text};
 use lines::Progress;
-use snapshot_writer::Snapshotted;
-
-fn least(a: usize, b: usize) -> usize
-    ensures { result ≡ min a b }
-{
-    if a < b {
-        return a;
-    }
-    b
-}
 
 // The input comes in pieces of this size; what a batch does not use comes again with the next piece.
 fn in_pieces(
@@ -33,7 +22,7 @@ fn in_pieces(
     let mut written: usize = 0;
     let mut end = 0;
     while end < input.len() {
-        end += least(size, input.len() - end);
+        end += size.min(input.len() - end);
         let progress = lines::batch(memory, &input[used..end], output);
         let size = progress.written;
         shown::text(rt, &output[0..size]);
@@ -46,14 +35,14 @@ fn in_pieces(
 fn batch(
     rt: &HostRuntime,
     line: &[u8],
-    size: u64,
+    size: Option<u64>,
     memory: &mut [u8],
     supplied: &[u8],
     output: &mut [u8],
 ) -> bool {
-    if size < 1 {
+    let Some(size) = size.filter(|size| 0 < *size) else {
         return false;
-    }
+    };
     shown::text(rt, line);
     shown::text(rt, b":\n");
     let progress = in_pieces(rt, memory, supplied, output, size as usize);
@@ -70,17 +59,15 @@ fn snapshot_size(rt: &HostRuntime, size: usize) {
 }
 
 fn snapshot_refused(rt: &HostRuntime, number: u8) {
-    shown::byte(rt, number);
+    shown::bytes(rt, &[number]);
     shown::text(rt, b"\n");
 }
 
 fn snapshot(rt: &HostRuntime, line: &[u8], memory: &mut [u8], output: &mut [u8]) -> bool {
     shown::echo(rt, line);
     match any_memory_snapshots::snapshot(memory, output) {
-        Snapshotted::Written(size) => snapshot_size(rt, size),
-        Snapshotted::AllocatorExhausted => snapshot_refused(rt, 9),
-        Snapshotted::OutputTooShort => snapshot_refused(rt, 22),
-        Snapshotted::UnsoundLedger => snapshot_refused(rt, 24),
+        Ok(size) => snapshot_size(rt, size),
+        Err(refusal) => snapshot_refused(rt, refusal.number()),
     }
     true
 }
@@ -95,19 +82,19 @@ fn version(rt: &HostRuntime, number: u64) {
 fn last_version(rt: &HostRuntime, line: &[u8], memory: &[u8]) -> bool {
     shown::echo(rt, line);
     match any_memory_accounts::last_version(memory) {
-        Versioned::Version(number) => version(rt, number),
-        Versioned::UnsoundLedger => shown::text(rt, b"24\n"),
+        Ok(number) => version(rt, number),
+        Err(_) => shown::text(rt, b"24\n"),
     }
     true
 }
 
 fn show(rt: &HostRuntime, line: &[u8], numbers: Numbers, room: &[u8]) -> bool {
-    let from = numbers.first as usize;
-    let end = numbers.second as usize;
-    if room.len() < end {
+    let (Some(from), Some(end)) = (numbers.first, numbers.second) else {
         return false;
-    }
-    if end < from {
+    };
+    let from = from as usize;
+    let end = end as usize;
+    if room.len() < end || end < from {
         return false;
     }
     shown::echo(rt, line);
@@ -132,17 +119,13 @@ fn shown_apart(
     supplied: &[u8],
     output: &mut [u8],
 ) -> bool {
-    let place = text::place(
-        operation,
-        b"-- last-version snapshot batch show-memory show-output",
-    );
-    match place {
-        0 => heading(rt, line),
-        1 => last_version(rt, line, memory),
-        2 => snapshot(rt, line, memory, output),
-        3 => batch(rt, line, numbers.second, memory, supplied, output),
-        4 => show(rt, line, numbers, memory),
-        5 => show(rt, line, numbers, output),
+    match operation {
+        b"--" => heading(rt, line),
+        b"last-version" => last_version(rt, line, memory),
+        b"snapshot" => snapshot(rt, line, memory, output),
+        b"batch" => batch(rt, line, numbers.second, memory, supplied, output),
+        b"show-memory" => show(rt, line, numbers, memory),
+        b"show-output" => show(rt, line, numbers, output),
         _ => false,
     }
 }
@@ -160,11 +143,11 @@ fn account_answered(
     let last = pair.last;
     let mut answer = [0u8; LONGEST_OTHER_ANSWER];
     let size = case_calls::change(operation, &rest[0..end], numbers, memory, &mut answer);
-    if shown::answered(rt, line, &answer, size, true) {
+    if shown::answered(rt, line, &answer, size, shown::decimals) {
         return true;
     }
     let size = case_calls::read(operation, &rest[last..], memory, &mut answer);
-    shown::answered(rt, line, &answer, size, true)
+    shown::answered(rt, line, &answer, size, shown::decimals)
 }
 
 fn snapshot_answered(
@@ -178,7 +161,7 @@ fn snapshot_answered(
 ) -> bool {
     let mut answer = [0u8; LONGEST_OTHER_ANSWER];
     let size = case_calls::judge(operation, numbers, memory, supplied, output, &mut answer);
-    shown::answered(rt, line, &answer, size, false)
+    shown::answered(rt, line, &answer, size, shown::bytes)
 }
 
 fn answered(
@@ -200,11 +183,10 @@ fn answered(
     shown_apart(rt, line, operation, numbers, memory, supplied, output)
 }
 
-fn refused(rt: &HostRuntime, line: &[u8], lent: Lent) -> Lent {
+fn refused(rt: &HostRuntime, line: &[u8]) {
     shown::text(rt, b"?? ");
     shown::text(rt, line);
     shown::text(rt, b"\n");
-    lent
 }
 
 // So much of each array is lent as the lines before said.
@@ -219,9 +201,9 @@ fn lent_answered(
     output: &mut [u8],
     lent: Lent,
 ) -> bool {
-    let memory_end = least(lent.memory, memory.len());
-    let supplied_end = least(lent.supplied, supplied.len());
-    let output_end = least(lent.output, output.len());
+    let memory_end = lent.memory.min(memory.len());
+    let supplied_end = lent.supplied.min(supplied.len());
+    let output_end = lent.output.min(output.len());
     answered(
         rt,
         line,
@@ -248,19 +230,15 @@ fn case(
     let end = pair.end;
     let last = pair.last;
     let numbers = text::read_numbers(&rest[0..end], &rest[last..]);
-    if !text::fits(operation, numbers) {
-        return refused(rt, line, lent);
-    }
-    let next = lent::set(operation, rest, numbers, memory, supplied, output, lent);
-    if next.silent {
+    if let Some(next) = lent::set(operation, rest, numbers, memory, supplied, output, lent) {
         return next;
     }
-    if lent_answered(
-        rt, line, operation, rest, numbers, memory, supplied, output, next,
+    if !lent_answered(
+        rt, line, operation, rest, numbers, memory, supplied, output, lent,
     ) {
-        return next;
+        refused(rt, line);
     }
-    refused(rt, line, next)
+    lent
 }
 
 pub fn each(
@@ -274,13 +252,12 @@ pub fn each(
         memory: 0,
         supplied: 0,
         output: 0,
-        silent: true,
     };
     let mut at = 0;
     while at < input.len() {
         let end = text::find(input, at, input.len(), b'\n');
         let space = text::find(input, at, end, b' ');
-        let rest = least(space + 1, end);
+        let rest = end.min(space + 1);
         lent = case(
             rt,
             &input[at..end],

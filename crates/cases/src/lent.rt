@@ -1,102 +1,64 @@
 // What is lent to the calls, and the lines that set it, which write nothing.
-use case_text::text;
 use case_text::text::Numbers;
 
-const LARGEST_BYTE: u64 = 255;
-
-// So many bytes at the front of each array are lent. `silent` says of the last line that it was one of these.
+// So many bytes at the front of each array are lent.
 #[derive(Clone, Copy)]
 pub struct Lent {
     pub memory: usize,
     pub supplied: usize,
     pub output: usize,
-    pub silent: bool,
 }
 
-// Whether the number of bytes and their value are in range.
-fn fill(room: &mut [u8], numbers: Numbers) -> bool {
-    let value = numbers.second;
-    if LARGEST_BYTE < value {
-        return false;
+// So many bytes at the front get this value, where there are so many and it is a byte's.
+fn fill(room: &mut [u8], numbers: Numbers) -> Option<usize> {
+    let size = numbers.first? as usize;
+    let value = u8::try_from(numbers.second?).ok()?;
+    if room.len() < size {
+        return None;
     }
-    let end = numbers.first as usize;
-    if room.len() < end {
-        return false;
-    }
-    let byte = value as u8;
-    let mut at = 0;
-    while at < end {
-        room[at] = byte;
-        at += 1;
-    }
-    true
+    room[..size].fill(value);
+    Some(size)
 }
 
-fn lend_memory(memory: &mut [u8], numbers: Numbers, lent: Lent) -> Lent {
-    let mut next = lent;
-    if fill(memory, numbers) {
-        next.memory = numbers.first as usize;
-        next.silent = true;
-    }
-    next
-}
-
-fn lend_output(output: &mut [u8], numbers: Numbers, lent: Lent) -> Lent {
-    let mut next = lent;
-    if fill(output, numbers) {
-        next.output = numbers.first as usize;
-        next.silent = true;
-    }
-    next
-}
-
-fn damage(memory: &mut [u8], numbers: Numbers, lent: Lent) -> Lent {
-    let at = numbers.first as usize;
-    let value = numbers.second;
+fn damage(memory: &mut [u8], numbers: Numbers, lent: Lent) -> Option<Lent> {
+    let at = numbers.first? as usize;
+    let value = u8::try_from(numbers.second?).ok()?;
     if lent.memory <= at || memory.len() <= at {
-        return lent;
+        return None;
     }
-    if LARGEST_BYTE < value {
-        return lent;
-    }
-    memory[at] = value as u8;
-    let mut next = lent;
-    next.silent = true;
-    next
+    memory[at] = value;
+    Some(lent)
 }
 
-fn supply(supplied: &mut [u8], line: &[u8], lent: Lent) -> Lent {
+fn supply(supplied: &mut [u8], line: &[u8], lent: Lent) -> Option<Lent> {
     if supplied.len() <= line.len() / 2 {
-        return lent;
+        return None;
     }
     let size = digits::front_bytes(line, supplied);
     if size + size < line.len() {
-        return lent;
+        return None;
     }
-    let mut next = lent;
-    next.supplied = size;
-    next.silent = true;
-    next
+    Some(Lent {
+        supplied: size,
+        ..lent
+    })
 }
 
-fn add_line(supplied: &mut [u8], line: &[u8], lent: Lent) -> Lent {
+fn add_line(supplied: &mut [u8], line: &[u8], lent: Lent) -> Option<Lent> {
     let from = lent.supplied;
-    if supplied.len() <= from {
-        return lent;
-    }
-    if supplied.len() - from <= line.len() {
-        return lent;
+    if supplied.len() <= from || supplied.len() - from <= line.len() {
+        return None;
     }
     let end = from + line.len();
-    numbers::copy(line, &mut supplied[from..end]);
+    supplied[from..end].copy_from_slice(line);
     supplied[end] = b'\n';
-    let mut next = lent;
-    next.supplied = end + 1;
-    next.silent = true;
-    next
+    Some(Lent {
+        supplied: end + 1,
+        ..lent
+    })
 }
 
-// Any other line, or one with a number out of range, leaves all as it is.
+// None for any other line, or one with a number missing or out of range: all that is lent stays.
 pub fn set(
     operation: &[u8],
     rest: &[u8],
@@ -105,16 +67,19 @@ pub fn set(
     supplied: &mut [u8],
     output: &mut [u8],
     lent: Lent,
-) -> Lent {
-    let mut loud = lent;
-    loud.silent = false;
-    let place = text::place(operation, b"memory damage output supplied line");
-    match place {
-        0 => lend_memory(memory, numbers, loud),
-        1 => damage(memory, numbers, loud),
-        2 => lend_output(output, numbers, loud),
-        3 => supply(supplied, rest, loud),
-        4 => add_line(supplied, rest, loud),
-        _ => loud,
+) -> Option<Lent> {
+    match operation {
+        b"memory" => Some(Lent {
+            memory: fill(memory, numbers)?,
+            ..lent
+        }),
+        b"damage" => damage(memory, numbers, lent),
+        b"output" => Some(Lent {
+            output: fill(output, numbers)?,
+            ..lent
+        }),
+        b"supplied" => supply(supplied, rest, lent),
+        b"line" => add_line(supplied, rest, lent),
+        _ => None,
     }
 }

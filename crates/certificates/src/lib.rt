@@ -8,13 +8,15 @@ ghost use Rattle.rules.specs.SnapshotsMigrationCertificates.{Row, Snapshot, acco
 ghost use Rattle.snapshot_reader.specs.Standing.{IsSnapshot, ShortNames, OfSnapshot};
 ghost use Rattle.totals.specs.Totals.{value_of};
 ghost use Rattle.room.specs.Room.{SoundRoom, Performs, OfRoom};
-ghost use Rattle.certificates.specs.Certified.{certificate_reply, certified_reply, proved_reply, both_fitted, totals_of, rotation_of, summarized_of};
+ghost use Rattle.rules.specs.AnswerNumbers.{done};
+ghost use Rattle.refusals.specs.Answers.{answer_of};
+ghost use Rattle.certificates.specs.Certified.{carries_certificate, carries_proof, both_fitted, totals_of, rotation_of, summarized_of};
 
-use heads::{Rotated, Stamped};
-use numbers::{Microcents, Sign};
+use heads::Rotated;
+use numbers::Microcents;
 use records::Head;
-use totals::{Fitted, Total};
-use validation::Verdict;
+use refusals::Refusal;
+use totals::Total;
 
 #[derive(Clone, Copy)]
 pub struct Certificate {
@@ -29,15 +31,6 @@ pub struct Certificate {
 }
 
 #[derive(Clone, Copy)]
-pub enum Certified {
-    Certificate(Certificate),
-    AllocatorExhausted,
-    NameTooLong,
-    BadFrame,
-    UnsoundLedger,
-}
-
-#[derive(Clone, Copy)]
 pub struct Proof {
     pub version: u64,
     pub accounts: u64,
@@ -46,19 +39,11 @@ pub struct Proof {
     pub committed_total: Microcents,
 }
 
+// The initial total and the committed total, both of which fit.
 #[derive(Clone, Copy)]
-pub enum Proved {
-    Proof(Proof),
-    AllocatorExhausted,
-    AggregateOverflow,
-    UnsoundLedger,
-}
-
-// The initial total and the committed total, where both fit.
-#[derive(Clone, Copy)]
-enum Totals {
-    Fit(Microcents, Microcents),
-    Outside,
+struct Totals {
+    initial: Microcents,
+    committed: Microcents,
 }
 
 // What the ledger's own snapshot says beside its rows.
@@ -67,29 +52,20 @@ struct Summary {
     head: Head,
     rows: u64,
     active: u64,
-    totals: Totals,
+    totals: Option<Totals>,
 }
 
-#[derive(Clone, Copy)]
-enum Summarized {
-    Taken(Summary),
-    AllocatorExhausted,
-}
-
-fn fit_both(initial: Total, committed: Total) -> Totals
+// Both totals, where both fit.
+fn fit_both(initial: Total, committed: Total) -> Option<Totals>
     ensures { result ≡ both_fitted (value_of initial) (value_of committed) }
 {
-    let Fitted::Fits(initial_total) = totals::fit(initial) else {
-        return Totals::Outside;
-    };
-    let Fitted::Fits(committed_total) = totals::fit(committed) else {
-        return Totals::Outside;
-    };
-    Totals::Fit(initial_total, committed_total)
+    let initial = totals::fit(initial)?;
+    let committed = totals::fit(committed)?;
+    Some(Totals { initial, committed })
 }
 
 // Rows may be negative: the totals carry and borrow between their words. One pass over the rows.
-fn totals_of_rows(bytes: &[u8]) -> Totals
+fn totals_of_rows(bytes: &[u8]) -> Option<Totals>
     requires { IsSnapshot bytes.now }
     ensures { OfSnapshot bytes.now (λ s. result ≡ totals_of s.rows) }
 {
@@ -106,7 +82,7 @@ fn totals_of_rows(bytes: &[u8]) -> Totals
 }
 
 // A name without an account has zero amounts, so every place may be added. One pass over the places.
-fn totals_of_places(room: &[u8]) -> Totals
+fn totals_of_places(room: &[u8]) -> Option<Totals>
     requires { SoundRoom room.now }
     ensures { OfRoom room.now (λ L. result ≡ totals_of (account_rows L.places)) }
 {
@@ -128,12 +104,7 @@ fn is_balanced(bytes: &[u8]) -> bool
     requires { ShortNames bytes.now }
     ensures { OfSnapshot bytes.now (λ s. result ≡ is_none (conservation s.rows)) }
 {
-    let judged = validation::conservation(bytes);
-    let verdict = judged.verdict;
-    let Verdict::Done = verdict else {
-        return false;
-    };
-    true
+    validation::conservation(bytes).is_ok()
 }
 
 // Where one of the totals does not fit, both are told as 0, and the snapshot is called neither balanced nor representable.
@@ -142,13 +113,13 @@ fn certify(
     rows: u64,
     active: u64,
     balanced: bool,
-    totals: Totals,
+    totals: Option<Totals>,
     since: Microcents,
 ) -> Certificate
     ensures { (s : Snapshot) → version ≡ s.version → rows ≡ length s.rows → active ≡ s.active → balanced ≡ is_none (conservation s.rows)
-        → totals ≡ totals_of s.rows → certificate_reply result ≡ certificate s since.0 }
+        → totals ≡ totals_of s.rows → done (carries_certificate result) ≡ certificate s since.0 }
 {
-    let Totals::Fit(initial_total, committed_total) = totals else {
+    let Some(fitted) = totals else {
         return Certificate {
             version,
             rows,
@@ -164,8 +135,8 @@ fn certify(
         version,
         rows,
         active,
-        initial_total,
-        committed_total,
+        initial_total: fitted.initial,
+        committed_total: fitted.committed,
         balanced,
         representable: true,
         since,
@@ -175,7 +146,7 @@ fn certify(
 // Two passes over the rows, one for the totals and one for the balance.
 fn of_snapshot(bytes: &[u8], since: Microcents) -> Certificate
     requires { ShortNames bytes.now }
-    ensures { OfSnapshot bytes.now (λ s. certificate_reply result ≡ certificate s since.0) }
+    ensures { OfSnapshot bytes.now (λ s. done (carries_certificate result) ≡ certificate s since.0) }
 {
     let version = snapshot_reader::version(bytes);
     let rows = snapshot_reader::count(bytes);
@@ -186,41 +157,39 @@ fn of_snapshot(bytes: &[u8], since: Microcents) -> Certificate
 }
 
 // 19, and else the certificate.
-pub fn of_supplied(bytes: &[u8], since: Microcents) -> Certified
+pub fn of_supplied(bytes: &[u8], since: Microcents) -> Result<Certificate, Refusal>
     requires { IsSnapshot bytes.now }
-    ensures { OfSnapshot bytes.now (λ s. certified_reply result ≡ certificate_of_snapshot since.0 s) }
+    ensures { OfSnapshot bytes.now (λ s. answer_of carries_certificate result ≡ certificate_of_snapshot since.0 s) }
 {
     if snapshot_reader::has_long_name(bytes) {
-        return Certified::NameTooLong;
+        return Err(Refusal::NameTooLong);
     }
-    Certified::Certificate(of_snapshot(bytes, since))
+    Ok(of_snapshot(bytes, since))
 }
 
 // The baseline rises to the committed total, and never falls; where the totals do not fit, it stays. A ledger's committed total is never negative.
-fn rotation(head: Head, totals: Totals) -> Rotated
+fn rotation(head: Head, totals: Option<Totals>) -> Rotated
     ensures { (rs : List Row) (total : ℕ) → totals ≡ totals_of rs → committed_rows_total rs ≡ pos total → result ≡ rotation_of (totals_fit rs) head total }
 {
-    let Totals::Fit(_initial, committed) = totals else {
+    let Some(fitted) = totals else {
         return Rotated { since: 0, head };
     };
-    let Sign::Natural(total) = numbers::sign_of(committed) else {
+    let Some(total) = numbers::natural_of(fitted.committed) else {
         return Rotated { since: 0, head };
     };
     heads::after_rotation(head, total)
 }
 
 // What the ledger's own snapshot says beside its rows, and the head that it stamps; 9 as for a snapshot. Two passes over the places.
-fn summarize(room: &[u8]) -> Summarized
+fn summarize(room: &[u8]) -> Result<Summary, Refusal>
     requires { SoundRoom room.now }
     ensures { OfRoom room.now (λ L. result ≡ summarized_of L) }
 {
-    let Stamped::Next(head) = heads::stamp(records::load_head(room)) else {
-        return Summarized::AllocatorExhausted;
-    };
+    let head = heads::stamp(records::load_head(room))?;
     let sizes = records::load_sizes(room);
     let rows = reads::accounts(room);
     let totals = totals_of_places(room);
-    Summarized::Taken(Summary {
+    Ok(Summary {
         head,
         rows,
         active: sizes.live,
@@ -229,41 +198,43 @@ fn summarize(room: &[u8]) -> Summarized
 }
 
 // The certificate of the ledger's own snapshot, which is balanced since the ledger is sound. The rows themselves are not written.
-pub fn of_ledger(room: &mut [u8]) -> Certified
+pub fn of_ledger(room: &mut [u8]) -> Result<Certificate, Refusal>
     requires { SoundRoom room.old }
-    ensures { Performs certificate_of_ledger room.old (certified_reply result) room.new }
+    ensures { Performs certificate_of_ledger room.old (answer_of carries_certificate result) room.new }
 {
-    let Summarized::Taken(summary) = summarize(room) else {
-        return Certified::AllocatorExhausted;
-    };
+    let summary = summarize(room)?;
     let head = summary.head;
     let totals = summary.totals;
     let rotated = rotation(head, totals);
     tables::put_head(room, rotated.head);
     let since = numbers::amount(rotated.since);
     let version = head.last_version;
-    Certified::Certificate(certify(version, summary.rows, summary.active, true, totals, since))
+    Ok(certify(
+        version,
+        summary.rows,
+        summary.active,
+        true,
+        totals,
+        since,
+    ))
 }
 
 // The head is stamped before the totals are looked at, so 15 leaves it stamped.
-pub fn prove(room: &mut [u8]) -> Proved
+pub fn prove(room: &mut [u8]) -> Result<Proof, Refusal>
     requires { SoundRoom room.old }
-    ensures { Performs conservation_proof room.old (proved_reply result) room.new }
+    ensures { Performs conservation_proof room.old (answer_of carries_proof result) room.new }
 {
-    let Summarized::Taken(summary) = summarize(room) else {
-        return Proved::AllocatorExhausted;
-    };
+    let summary = summarize(room)?;
     let head = summary.head;
     tables::put_head(room, head);
-    let totals = summary.totals;
-    let Totals::Fit(initial_total, committed_total) = totals else {
-        return Proved::AggregateOverflow;
+    let Some(fitted) = summary.totals else {
+        return Err(Refusal::AggregateOverflow);
     };
-    Proved::Proof(Proof {
+    Ok(Proof {
         version: head.last_version,
         accounts: summary.rows,
         active: summary.active,
-        initial_total,
-        committed_total,
+        initial_total: fitted.initial,
+        committed_total: fitted.committed,
     })
 }

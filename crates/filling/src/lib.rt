@@ -13,7 +13,7 @@ ghost use Rattle.filling.specs.Filling.{Takes, Holds, NotNegative, NoneNegative,
 ghost use Rattle.snapshot_reader.specs.Standing.{OfSnapshot};
 
 use moves::Seat;
-use numbers::{Microcents, Sum};
+use numbers::Microcents;
 use records::Head;
 use snapshot_reader::StandingRow;
 
@@ -30,10 +30,7 @@ fn capped(total: u64, more: u64) -> u64
     requires { total ≤ M }
     ensures { result ≡ min (total + more) M }
 {
-    let Sum::Fits(sum) = numbers::plus(total, more) else {
-        return rules::M;
-    };
-    sum
+    numbers::plus(total, more).unwrap_or(rules::M)
 }
 
 fn seat_of(row: StandingRow) -> Seat
@@ -58,7 +55,7 @@ fn put_row(room: &mut [u8], part: &[u8], seat: Seat)
         (λ L. Holds (with_places L (seated part.now (meaning seat) L.places)) room.old room.new) }
 {
     let found = lookup::find(room, part);
-    seats::write_seat(room, part, found, seat);
+    let _ = seats::write_seat(room, part, found, seat);
 }
 
 // One pass over the rows; each is looked for among those already put, which ascend, and rows that come in ascending order move nothing.
@@ -86,7 +83,7 @@ pub fn fill(room: &mut [u8], bytes: &[u8])
     ensures { OfRoom room.old (λ L. OfSnapshot bytes.now (λ s. Holds (restored L s) room.old room.new)) }
 {
     let sizes = records::load_sizes(room);
-    soundness::make(room, sizes.names, sizes.reservations);
+    let _ = soundness::make(room, sizes.names, sizes.reservations);
     let baseline = put_rows(room, bytes);
     let version = snapshot_reader::version(bytes);
     let fence = big_endian::fence_of(version);

@@ -1,5 +1,5 @@
 -- A frame's bytes as an operation: what each answer of the reader says of the bytes in the words of the rules.
-use Rattle.std.specs.Prelude.{◌≡◌, List, ℕ, ◌+◌, ◌-◌, ◌≤◌, length, get_or, take, drop}
+use Rattle.std.specs.Prelude.{◌≡◌, List, ℕ, ◌+◌, ◌-◌, ◌≤◌, length, get_or, take, drop, Option as Read, Some, None, IfSome}
 use Rattle.std.proofs.Math.Option.{Option, none, some}
 use Rattle.rules.specs.RoomAndSoundLedger.{Name}
 use Rattle.rules.specs.AccountRules.{ensure, top_up, limit, reserve, commit, release}
@@ -42,7 +42,11 @@ operation_in bs frame.Certificate = some certify_ledger
 operation_in bs (frame.CertificateOfSnapshot since) = supplied (certify since.0) (snapshot_of_bytes (drop word_end bs))
 operation_in bs frame.ConservationProof = some prove_conservation
 operation_in bs frame.Status = supplied judge (snapshot_of_bytes (drop 1 bs))
-operation_in bs frame.BadFrame = none
+
+-- what a frame that was read is, or none for a bad frame
+abbrev pub operation_read : List ℕ → Read Frame → Option Operation
+operation_read bs None = none
+operation_read bs (Some f) = operation_in bs f
 
 -- a snapshot stands from this byte on
 pub record StandsFrom (from : ℕ) (bs : List ℕ) : Type 0 where
@@ -66,7 +70,10 @@ PartsWithin bs frame.Certificate = Unit {0}
 PartsWithin bs (frame.CertificateOfSnapshot since) = StandsFrom word_end bs
 PartsWithin bs frame.ConservationProof = Unit {0}
 PartsWithin bs frame.Status = StandsFrom 1 bs
-PartsWithin bs frame.BadFrame = Unit {0}
+
+-- of a frame that was read
+abbrev pub PartsStand : List ℕ → Read Frame → Type 0
+PartsStand bs read = IfSome read (PartsWithin bs)
 
 -- ── what the readers ask and promise ───────────────────────────────────────────────────────────
 
@@ -74,5 +81,5 @@ abbrev pub HasCode : List ℕ → (code : ℕ) → Type 0
 HasCode bs code = (1 ≤ length bs) × (get_or bs 0 0 ≡ code)
 
 -- the reader's answer is the operation that the rules read
-abbrev pub ReadsAs : List ℕ → Frame → Type 0
-ReadsAs bs f = operation_in bs f ≡ operation_of bs
+abbrev pub ReadsAs : List ℕ → Read Frame → Type 0
+ReadsAs bs read = operation_read bs read ≡ operation_of bs

@@ -1,11 +1,11 @@
-// A frame's bytes as an operation, by the codes 01 to 0e of document 01, "Frames"; what is none of them is a bad frame. A name and a snapshot are left where
+// A frame's bytes as an operation, by the codes 01 to 0e of document 01, "Frames"; none for what is none of them (23). A name and a snapshot are left where
 // they stand: the name from byte 2 to its end, the snapshot to the end of the frame.
 
 #![tactic(auto)]
 
 ghost use Rattle.std.specs.Prelude.{◌≡◌, ◌⊎◌, ◌≤◌};
 ghost use Rattle.rules.specs.Frames.{operation_of_frame};
-ghost use Rattle.frame_reader.specs.Operations.{operation_in, HasCode, ReadsAs, PartsWithin};
+ghost use Rattle.frame_reader.specs.Operations.{operation_read, HasCode, ReadsAs, PartsStand};
 
 use numbers::{Identifier, Microcents};
 
@@ -35,110 +35,114 @@ pub enum Frame {
     CertificateOfSnapshot(Microcents),
     ConservationProof,
     Status,
-    BadFrame,
 }
 
 // 01 to 04: ensure, top-up, limit and reserve.
-fn read_named(code: u8, bytes: &[u8]) -> Frame
+fn read_named(code: u8, bytes: &[u8]) -> Option<Frame>
     requires { HasCode bytes.now code × (1 ≤ code) × (code ≤ 4) }
     ensures operation { ReadsAs bytes.now result }
-    ensures parts { PartsWithin bytes.now result }
+    ensures parts { PartsStand bytes.now result }
 {
     if bytes.len() < NAME_START {
-        return Frame::BadFrame;
+        return None;
     }
     let end = NAME_START + bytes[1] as usize;
     if bytes.len() != end + 8 {
-        return Frame::BadFrame;
+        return None;
     }
     let amount = big_endian::read_amount(&bytes[end..]);
     match code {
-        1 => Frame::Ensure(end, amount),
-        2 => Frame::TopUp(end, amount),
-        3 => Frame::Limit(end, amount),
-        _ => Frame::Reserve(end, amount),
+        1 => Some(Frame::Ensure(end, amount)),
+        2 => Some(Frame::TopUp(end, amount)),
+        3 => Some(Frame::Limit(end, amount)),
+        _ => Some(Frame::Reserve(end, amount)),
     }
 }
 
 // 05 and 06: commit and release.
-fn read_settlement(code: u8, bytes: &[u8]) -> Frame
+fn read_settlement(code: u8, bytes: &[u8]) -> Option<Frame>
     requires { HasCode bytes.now code × (5 ≤ code) × (code ≤ 6) }
     ensures operation { ReadsAs bytes.now result }
-    ensures parts { PartsWithin bytes.now result }
+    ensures parts { PartsStand bytes.now result }
 {
     if bytes.len() < WORD_END {
-        return Frame::BadFrame;
+        return None;
     }
     let id = Identifier(big_endian::read8(&bytes[1..WORD_END]));
     if code == 6 {
         if bytes.len() != WORD_END {
-            return Frame::BadFrame;
+            return None;
         }
-        return Frame::Release(id);
+        return Some(Frame::Release(id));
     }
     if bytes.len() != TWO_WORDS_END {
-        return Frame::BadFrame;
+        return None;
     }
-    Frame::Commit(id, big_endian::read_amount(&bytes[WORD_END..TWO_WORDS_END]))
+    Some(Frame::Commit(
+        id,
+        big_endian::read_amount(&bytes[WORD_END..TWO_WORDS_END]),
+    ))
 }
 
 // 07, 0b and 0d: the ledger's snapshot, certificate and proof. Nothing follows.
-fn read_alone(code: u8, bytes: &[u8]) -> Frame
+fn read_alone(code: u8, bytes: &[u8]) -> Option<Frame>
     requires { HasCode bytes.now code × ((code ≡ 7) ⊎ (code ≡ 11) ⊎ (code ≡ 13)) }
     ensures operation { ReadsAs bytes.now result }
-    ensures parts { PartsWithin bytes.now result }
+    ensures parts { PartsStand bytes.now result }
 {
     if bytes.len() != 1 {
-        return Frame::BadFrame;
+        return None;
     }
     match code {
-        7 => Frame::Snapshot,
-        11 => Frame::Certificate,
-        _ => Frame::ConservationProof,
+        7 => Some(Frame::Snapshot),
+        11 => Some(Frame::Certificate),
+        _ => Some(Frame::ConservationProof),
     }
 }
 
 // 08, 09 and 0e: both restores, and the conservation status.
-fn read_snapshot(code: u8, bytes: &[u8]) -> Frame
+fn read_snapshot(code: u8, bytes: &[u8]) -> Option<Frame>
     requires { HasCode bytes.now code × ((code ≡ 8) ⊎ (code ≡ 9) ⊎ (code ≡ 14)) }
     ensures operation { ReadsAs bytes.now result }
-    ensures parts { PartsWithin bytes.now result }
+    ensures parts { PartsStand bytes.now result }
 {
     if !snapshot_reader::is_snapshot(&bytes[1..]) {
-        return Frame::BadFrame;
+        return None;
     }
     match code {
-        8 => Frame::Restore,
-        9 => Frame::RecoveryRestore,
-        _ => Frame::Status,
+        8 => Some(Frame::Restore),
+        9 => Some(Frame::RecoveryRestore),
+        _ => Some(Frame::Status),
     }
 }
 
 // 0a and 0c: a migration with its fence, and a certificate of a snapshot with its since.
-fn read_word_and_snapshot(code: u8, bytes: &[u8]) -> Frame
+fn read_word_and_snapshot(code: u8, bytes: &[u8]) -> Option<Frame>
     requires { HasCode bytes.now code × ((code ≡ 10) ⊎ (code ≡ 12)) }
     ensures operation { ReadsAs bytes.now result }
-    ensures parts { PartsWithin bytes.now result }
+    ensures parts { PartsStand bytes.now result }
 {
     if bytes.len() < WORD_END {
-        return Frame::BadFrame;
+        return None;
     }
     if !snapshot_reader::is_snapshot(&bytes[WORD_END..]) {
-        return Frame::BadFrame;
+        return None;
     }
     if code == 10 {
-        return Frame::Migrate(big_endian::read8(&bytes[1..WORD_END]));
+        return Some(Frame::Migrate(big_endian::read8(&bytes[1..WORD_END])));
     }
-    Frame::CertificateOfSnapshot(big_endian::read_amount(&bytes[1..WORD_END]))
+    Some(Frame::CertificateOfSnapshot(big_endian::read_amount(
+        &bytes[1..WORD_END],
+    )))
 }
 
 // A frame with a snapshot is passed over once; any other is read without a pass.
-fn read_operation(bytes: &[u8]) -> Frame
+fn read_operation(bytes: &[u8]) -> Option<Frame>
     ensures operation { ReadsAs bytes.now result }
-    ensures parts { PartsWithin bytes.now result }
+    ensures parts { PartsStand bytes.now result }
 {
     if bytes.len() == 0 {
-        return Frame::BadFrame;
+        return None;
     }
     let code = bytes[0];
     match code {
@@ -147,17 +151,17 @@ fn read_operation(bytes: &[u8]) -> Frame
         7 | 11 | 13 => read_alone(code, bytes),
         8 | 9 | 14 => read_snapshot(code, bytes),
         10 | 12 => read_word_and_snapshot(code, bytes),
-        _ => Frame::BadFrame,
+        _ => None,
     }
 }
 
 // Document 01, Frames: no line has more characters than the longest frame takes, and more bytes than it has are a bad frame however they come.
-pub fn read(bytes: &[u8]) -> Frame
-    ensures operation { operation_in bytes.now result ≡ operation_of_frame bytes.now }
-    ensures parts { PartsWithin bytes.now result }
+pub fn read(bytes: &[u8]) -> Option<Frame>
+    ensures operation { operation_read bytes.now result ≡ operation_of_frame bytes.now }
+    ensures parts { PartsStand bytes.now result }
 {
     if LONGEST_FRAME < bytes.len() {
-        return Frame::BadFrame;
+        return None;
     }
     read_operation(bytes)
 }

@@ -1,12 +1,12 @@
 -- What the answering of a frame promises of the lent memory and of the output.
-use Rattle.std.specs.Prelude.{◌≡◌, Bool, true, false, List, ℕ, ◌+◌, ◌≤◌, length}
+use Rattle.std.specs.Prelude.{◌≡◌, Bool, true, false, List, ℕ, ◌+◌, ◌≤◌, length, Option as Read}
 use Rattle.std.proofs.Math.Option.{Option, none, some}
 use Rattle.rules.specs.RoomAndSoundLedger.{Ledger}
 use Rattle.rules.specs.AnswerNumbers.{Lent, sound, unsound}
 use Rattle.rules.specs.Frames.{Operation, on_account, take_snapshot, certify_ledger, prove_conservation, restore_from, recover_from, judge, migrate_to, certify, longest_snapshot, answer_or23}
 use Rattle.room.specs.Room.{IsRoom, OfRoom, SoundRoom}
 use Rattle.frame_reader.specs.declared.Frame.{Frame}
-use Rattle.frame_reader.specs.Operations.{operation_in, PartsWithin}
+use Rattle.frame_reader.specs.Operations.{operation_in, operation_read, PartsWithin, PartsStand}
 use Rattle.answer_bytes.specs.Sizes.{longest_other_answer}
 use Rattle.answer_bytes.specs.Writing.{WritesReply}
 
@@ -63,3 +63,7 @@ room_for (some x) = room_for_operation x
 -- a frame that was read from these bytes, and output with room for its longest answer
 abbrev pub Answerable : (bytes : List ℕ) → Frame → (output : List ℕ) → Type 0
 Answerable bytes f output = PartsWithin bytes f × (room_for (operation_in bytes f) ≤ length output)
+
+-- or none that was read
+abbrev pub AnswerableRead : (bytes : List ℕ) → Read Frame → (output : List ℕ) → Type 0
+AnswerableRead bytes read output = PartsStand bytes read × (room_for (operation_read bytes read) ≤ length output)

@@ -2,24 +2,23 @@
 
 #![tactic(auto)]
 
-ghost use Rattle.std.specs.Prelude.{◌≡◌, List, ℕ, ◌≤◌, length};
+ghost use Rattle.std.specs.Prelude.{◌≡◌, List, ◌∷◌, ℕ, ◌+◌, ◌≤◌, length, drop};
 ghost use Rattle.std.proofs.Math.Option.{some};
 ghost use Rattle.rules.specs.AnswerNumbers.{unsound};
 ghost use Rattle.rules.specs.AccountRules.{ensure, top_up, limit, reserve, commit, release};
 ghost use Rattle.rules.specs.SnapshotsMigrationCertificates.{Snapshot, migrate, status, certificate_of_snapshot};
 ghost use Rattle.rules.specs.Frames.{on_account, take_snapshot, certify_ledger, prove_conservation, restore_from, recover_from, longest_snapshot, answer_or23};
 ghost use Rattle.snapshot_reader.specs.Standing.{IsSnapshot, OfSnapshot};
-ghost use Rattle.frame_reader.specs.Operations.{operation_in, PartsWithin};
+ghost use Rattle.frame_reader.specs.Operations.{operation_in, operation_read, PartsStand};
 ghost use Rattle.answer_bytes.specs.Sizes.{longest_other_answer};
 ghost use Rattle.answer_bytes.specs.Writing.{WritesReply};
 ghost use Rattle.room.specs.Room.{SoundRoom};
-ghost use Rattle.frames.specs.Answering.{Known, AnswersInRoom, PromisesAnswer, longest_answer, room_for, Answerable};
+ghost use Rattle.frames.specs.Answering.{Known, AnswersInRoom, PromisesAnswer, longest_answer, room_for, Answerable, AnswerableRead};
 
 use answer_bytes::LONGEST_OTHER_ANSWER;
 use frame_reader::{Frame, LONGEST_FRAME, NAME_START, WORD_END};
 use numbers::{Identifier, Microcents};
-use snapshot_writer::Snapshotted;
-use validation::Verdict;
+use refusals::Refusal;
 
 // A snapshot behind its number: only a snapshot and a migration hand one out.
 pub const LONGEST_ANSWER: usize = 1 + rules::LONGEST_SNAPSHOT;
@@ -34,8 +33,7 @@ fn ensure(room: &mut [u8], name: &[u8], amount: Microcents, output: &mut [u8]) -
     ensures { AnswersInRoom (some (on_account (ensure name.now amount.0)))
         room.old room.new output.old output.new result }
 {
-    let answer = accounts::ensure(room, name, amount);
-    account_answers::write_ensured(output, answer)
+    answers::write_answer(output, accounts::ensure(room, name, amount))
 }
 
 fn top_up(room: &mut [u8], name: &[u8], amount: Microcents, output: &mut [u8]) -> usize
@@ -43,8 +41,7 @@ fn top_up(room: &mut [u8], name: &[u8], amount: Microcents, output: &mut [u8]) -
     ensures { AnswersInRoom (some (on_account (top_up name.now amount.0)))
         room.old room.new output.old output.new result }
 {
-    let answer = accounts::top_up(room, name, amount);
-    account_answers::write_topped_up(output, answer)
+    answers::write_answer(output, accounts::top_up(room, name, amount))
 }
 
 fn limit(room: &mut [u8], name: &[u8], amount: Microcents, output: &mut [u8]) -> usize
@@ -52,8 +49,7 @@ fn limit(room: &mut [u8], name: &[u8], amount: Microcents, output: &mut [u8]) ->
     ensures { AnswersInRoom (some (on_account (limit name.now amount.0)))
         room.old room.new output.old output.new result }
 {
-    let answer = accounts::limit(room, name, amount);
-    account_answers::write_limited(output, answer)
+    answers::write_answer(output, accounts::limit(room, name, amount))
 }
 
 fn reserve(room: &mut [u8], name: &[u8], cost: Microcents, output: &mut [u8]) -> usize
@@ -61,8 +57,7 @@ fn reserve(room: &mut [u8], name: &[u8], cost: Microcents, output: &mut [u8]) ->
     ensures { AnswersInRoom (some (on_account (reserve name.now cost.0)))
         room.old room.new output.old output.new result }
 {
-    let answer = reservations::reserve(room, name, cost);
-    account_answers::write_reserved(output, answer)
+    answers::write_answer(output, reservations::reserve(room, name, cost))
 }
 
 fn commit(room: &mut [u8], id: Identifier, actual: Microcents, output: &mut [u8]) -> usize
@@ -70,8 +65,7 @@ fn commit(room: &mut [u8], id: Identifier, actual: Microcents, output: &mut [u8]
     ensures { AnswersInRoom (some (on_account (commit id.0 actual.0)))
         room.old room.new output.old output.new result }
 {
-    let answer = reservations::commit(room, id, actual);
-    account_answers::write_committed(output, answer)
+    answers::write_answer(output, reservations::commit(room, id, actual))
 }
 
 fn release(room: &mut [u8], id: Identifier, output: &mut [u8]) -> usize
@@ -79,21 +73,28 @@ fn release(room: &mut [u8], id: Identifier, output: &mut [u8]) -> usize
     ensures { AnswersInRoom (some (on_account (release id.0)))
         room.old room.new output.old output.new result }
 {
-    let answer = reservations::release(room, id);
-    account_answers::write_released(output, answer)
+    answers::write_answer(output, reservations::release(room, id))
 }
 
-// The snapshot is written behind the answer's number, where it stays.
+// A snapshot of this size was written behind the answer's number, where it stays.
+fn behind_number(output: &mut [u8], size: usize) -> usize
+    requires { (1 ≤ length output.old) × (1 + size ≤ length output.old) }
+    ensures size { result ≡ 1 + size }
+    ensures output { output.new ≡ 0 ∷ drop 1 output.old }
+{
+    output[0] = 0;
+    1 + size
+}
+
 fn snapshot(room: &mut [u8], output: &mut [u8]) -> usize
     requires { SoundRoom room.old × (longest_answer ≤ length output.old) }
     ensures { AnswersInRoom (some take_snapshot)
         room.old room.new output.old output.new result }
 {
-    let Snapshotted::Written(size) = snapshot_writer::snapshot(room, &mut output[1..]) else {
-        return answer_bytes::write_number(output, 9);
-    };
-    numbers::write1(&mut output[0..1], 0);
-    1 + size
+    match snapshot_writer::snapshot(room, &mut output[1..]) {
+        Ok(size) => behind_number(output, size),
+        Err(refusal) => answers::write_refusal(output, refusal),
+    }
 }
 
 fn restore(room: &mut [u8], bytes: &[u8], output: &mut [u8]) -> usize
@@ -101,8 +102,7 @@ fn restore(room: &mut [u8], bytes: &[u8], output: &mut [u8]) -> usize
     ensures { OfSnapshot bytes.now (λ s. AnswersInRoom (some (restore_from s))
         room.old room.new output.old output.new result) }
 {
-    let judged = restoring::restore(room, bytes);
-    snapshot_answers::write_judged(output, judged)
+    answers::write_answer(output, restoring::restore(room, bytes))
 }
 
 fn recovery_restore(room: &mut [u8], bytes: &[u8], output: &mut [u8]) -> usize
@@ -110,8 +110,7 @@ fn recovery_restore(room: &mut [u8], bytes: &[u8], output: &mut [u8]) -> usize
     ensures { OfSnapshot bytes.now (λ s. AnswersInRoom (some (recover_from s))
         room.old room.new output.old output.new result) }
 {
-    let judged = restoring::recovery_restore(room, bytes);
-    snapshot_answers::write_judged(output, judged)
+    answers::write_answer(output, restoring::recovery_restore(room, bytes))
 }
 
 fn certificate(room: &mut [u8], output: &mut [u8]) -> usize
@@ -119,8 +118,7 @@ fn certificate(room: &mut [u8], output: &mut [u8]) -> usize
     ensures { AnswersInRoom (some certify_ledger)
         room.old room.new output.old output.new result }
 {
-    let certified = certificates::of_ledger(room);
-    snapshot_answers::write_certified(output, certified)
+    answers::write_answer(output, certificates::of_ledger(room))
 }
 
 fn conservation_proof(room: &mut [u8], output: &mut [u8]) -> usize
@@ -128,8 +126,7 @@ fn conservation_proof(room: &mut [u8], output: &mut [u8]) -> usize
     ensures { AnswersInRoom (some prove_conservation)
         room.old room.new output.old output.new result }
 {
-    let proved = certificates::prove(room);
-    snapshot_answers::write_proved(output, proved)
+    answers::write_answer(output, certificates::prove(room))
 }
 
 // What follows takes no ledger: a migration, and the judging of a snapshot that comes with its frame.
@@ -138,13 +135,10 @@ fn migrate(bytes: &[u8], fence: u64, output: &mut [u8]) -> usize
     ensures { OfSnapshot bytes.now (λ s. WritesReply (migrate longest_snapshot fence s)
         output.old output.new result) }
 {
-    let judged = migration::migrate(bytes, fence, &mut output[1..]);
-    let verdict = judged.verdict;
-    let Verdict::Done = verdict else {
-        return snapshot_answers::write_judged(output, judged);
-    };
-    numbers::write1(&mut output[0..1], 0);
-    1 + bytes.len()
+    match migration::migrate(bytes, fence, &mut output[1..]) {
+        Ok(size) => behind_number(output, size),
+        Err(refusal) => answers::write_refusal(output, refusal),
+    }
 }
 
 fn certificate_of_snapshot(bytes: &[u8], since: Microcents, output: &mut [u8]) -> usize
@@ -152,25 +146,22 @@ fn certificate_of_snapshot(bytes: &[u8], since: Microcents, output: &mut [u8]) -
     ensures { OfSnapshot bytes.now (λ s. WritesReply (certificate_of_snapshot since.0 s)
         output.old output.new result) }
 {
-    let certified = certificates::of_supplied(bytes, since);
-    snapshot_answers::write_certified(output, certified)
+    answers::write_answer(output, certificates::of_supplied(bytes, since))
 }
 
 fn status(bytes: &[u8], output: &mut [u8]) -> usize
     requires { IsSnapshot bytes.now × (longest_other_answer ≤ length output.old) }
     ensures { OfSnapshot bytes.now (λ s. WritesReply (status s) output.old output.new result) }
 {
-    let judged = validation::status(bytes);
-    snapshot_answers::write_judged(output, judged)
+    answers::write_answer(output, validation::status(bytes))
 }
 
 // How much room the longest answer to this frame takes.
-pub fn room_for(frame: Frame) -> usize
-    ensures { (bytes : List ℕ) → PartsWithin bytes frame → result ≡ room_for (operation_in bytes frame) }
+pub fn room_for(frame: Option<Frame>) -> usize
+    ensures { (bytes : List ℕ) → PartsStand bytes frame → result ≡ room_for (operation_read bytes frame) }
 {
     match frame {
-        Frame::Snapshot => LONGEST_ANSWER,
-        Frame::Migrate(_fence) => LONGEST_ANSWER,
+        Some(Frame::Snapshot | Frame::Migrate(_)) => LONGEST_ANSWER,
         _ => LONGEST_OTHER_ANSWER,
     }
 }
@@ -190,8 +181,7 @@ fn without_ledger(bytes: &[u8], frame: Frame, output: &mut [u8]) -> usize
             output,
         ),
         Frame::Status => status(&bytes[1..], output),
-        Frame::BadFrame => answer_bytes::write_number(output, 23),
-        _ => answer_bytes::write_number(output, 24),
+        _ => answers::write_refusal(output, Refusal::UnsoundLedger),
     }
 }
 
@@ -217,12 +207,21 @@ fn perform(room: &mut [u8], bytes: &[u8], frame: Frame, output: &mut [u8]) -> us
     }
 }
 
-// A frame that was read from these bytes, on memory of which it is known whether it is the room of a sound ledger.
-pub fn answer(room: &mut [u8], known: bool, bytes: &[u8], frame: Frame, output: &mut [u8]) -> usize
-    requires { Known known room.old × Answerable bytes.now frame output.old }
-    ensures { PromisesAnswer (operation_in bytes.now frame)
+// What was read from these bytes, on memory of which it is known whether it is the room of a sound ledger: 23 where it is no frame.
+pub fn answer(
+    room: &mut [u8],
+    known: bool,
+    bytes: &[u8],
+    read: Option<Frame>,
+    output: &mut [u8],
+) -> usize
+    requires { Known known room.old × AnswerableRead bytes.now read output.old }
+    ensures { PromisesAnswer (operation_read bytes.now read)
         room.old room.new output.old output.new result }
 {
+    let Some(frame) = read else {
+        return answers::write_refusal(output, Refusal::BadFrame);
+    };
     if known {
         return perform(room, bytes, frame, output);
     }

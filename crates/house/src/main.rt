@@ -20,6 +20,6 @@ fn main(rt: HostRuntime) {
     let mut room = [0u8; LARGEST_ROOM];
     let mut input = [0u8; READ_SIZE];
     let mut output = [0u8; WRITE_SIZE];
-    soundness::make(&mut room, MOST_NAMES, MOST_RESERVATIONS);
+    let _ = soundness::make(&mut room, MOST_NAMES, MOST_RESERVATIONS);
     desk::open(&rt, &mut room, &mut input, &mut output);
 }

@@ -1,16 +1,11 @@
 -- A line to its answer line, and a stretch of lines to their answers.
-use Rattle.std.specs.Prelude.{◌≡◌, ◌⊎◌, ◌≢◌, Bool, List, [], ◌∷◌, ◌++◌, ℕ, ◌+◌, ◌-◌, ◌≤◌, ◌<◌, length, get_or, take, drop}
+use Rattle.std.specs.Prelude.{◌≡◌, ◌⊎◌, ◌≢◌, Bool, List, [], ◌∷◌, ◌++◌, ℕ, ◌+◌, ◌-◌, ◌≤◌, ◌<◌, length, get_or, take, drop, Option as Answer, Some, None}
 use Rattle.std.proofs.Math.Option.{Option}
 use Rattle.rules.specs.Lists.{All}
 use Rattle.rules.specs.AnswerNumbers.{Lent, unsound}
 use Rattle.rules.specs.Frames.{Operation, lent_after, line_feed, answer_line, answer_or23, operation_of_line, answer_to_line, answers_to_lines, longest_frame}
 use Rattle.frames.specs.Answering.{IsLent, room_for, OfLent, Known}
-use Rattle.lines.specs.declared.LineAnswer.{LineAnswer}
-use Rattle.lines.specs.declared.LineAnswer.TheVariants as answer
-use Rattle.lines.specs.declared.LineEnd.{LineEnd}
-use Rattle.lines.specs.declared.LineEnd.TheVariants as end
-use Rattle.lines.specs.declared.Next.{Next}
-use Rattle.lines.specs.declared.Next.TheVariants as next
+use Rattle.lines.specs.declared.Answered.{Answered}
 use Rattle.lines.specs.declared.Progress.{Progress}
 
 -- the room that the longest answer line to an operation takes: two characters a byte, and the line feed
@@ -25,11 +20,11 @@ pub record AnswersLine (o : Option Operation) (l : Lent) (before after output-be
   pub untouched : l ≡ unsound → after ≡ before
 
 -- an answer is given exactly where there is room for the longest one to this operation, and else nothing changes
-abbrev pub LineAnswered : Option Operation → Lent → (before after output-before output-after : List ℕ) → LineAnswer → Type 0
-LineAnswered o l before after output-before output-after (answer.Written size) = (line_room o ≤ length output-before) × AnswersLine o l before after output-before output-after size
-LineAnswered o l before after output-before output-after answer.OutputTooShort = (length output-before < line_room o) × (after ≡ before) × (output-after ≡ output-before)
+abbrev pub LineAnswered : Option Operation → Lent → (before after output-before output-after : List ℕ) → Answer ℕ → Type 0
+LineAnswered o l before after output-before output-after (Some size) = (line_room o ≤ length output-before) × AnswersLine o l before after output-before output-after size
+LineAnswered o l before after output-before output-after None = (length output-before < line_room o) × (after ≡ before) × (output-after ≡ output-before)
 
-abbrev pub PromisesLine : Option Operation → (before after output-before output-after : List ℕ) → LineAnswer → Type 0
+abbrev pub PromisesLine : Option Operation → (before after output-before output-after : List ℕ) → Answer ℕ → Type 0
 PromisesLine o before after output-before output-after r = OfLent before (λ l. LineAnswered o l before after output-before output-after r)
 
 -- what the work on lines asks: to know whether the memory is the room of a sound ledger, and room for the longest frame
@@ -47,9 +42,9 @@ with_feeds [] = []
 with_feeds (line ∷ lines) = line ++ (line_feed ∷ with_feeds lines)
 
 -- the first line feed from a byte on, or that there is none
-abbrev pub FirstFeed : List ℕ → ℕ → LineEnd → Type 0
-FirstFeed input from (end.At at) = (from ≤ at) × (at < length input) × (get_or input at 0 ≡ line_feed) × IsLine (take (at - from) (drop from input))
-FirstFeed input from end.Missing = IsLine (drop from input)
+abbrev pub FirstFeed : List ℕ → ℕ → Answer ℕ → Type 0
+FirstFeed input from (Some at) = (from ≤ at) × (at < length input) × (get_or input at 0 ≡ line_feed) × IsLine (take (at - from) (drop from input))
+FirstFeed input from None = IsLine (drop from input)
 
 -- each line answered had room for the longest answer to its operation
 abbrev pub HadRoom : Lent → (left : ℕ) → List (List ℕ) → Type 0
@@ -64,29 +59,24 @@ pub record NextTooLong (rest : List ℕ) (left : ℕ) : Type 0 where
   pub stands : rest ≡ line ++ (line_feed ∷ later)
   pub short : left < line_room (operation_of_line line)
 
--- an answer to the line that ends there, or none
-abbrev pub next_of : ℕ → LineAnswer → Next
-next_of end (answer.Written size) = next.Answered end size
-next_of end answer.OutputTooShort = next.Stopped
-
 -- the input's first line ends there
 pub record FirstLine (input : List ℕ) (end : ℕ) : Type 0 where
   pub inside : end < length input
   pub feed : get_or input end 0 ≡ line_feed
   pub is_line : IsLine (take end input)
 
-abbrev pub NextFound : List ℕ → Next → Type 0
-NextFound input (next.Answered end size) = FirstLine input end
-NextFound input next.Stopped = Unit {0}
+abbrev pub NextFound : List ℕ → Answer Answered → Type 0
+NextFound input (Some a) = FirstLine input a.end
+NextFound input None = Unit {0}
 
 -- where the first line is not answered, nothing changes
-abbrev pub NextAnswered : Lent → (input before after output-before output-after : List ℕ) → Next → Type 0
-NextAnswered l input before after output-before output-after (next.Answered end size) =
-    LineAnswered (operation_of_line (take end input)) l before after output-before output-after (answer.Written size)
-NextAnswered l input before after output-before output-after next.Stopped =
+abbrev pub NextAnswered : Lent → (input before after output-before output-after : List ℕ) → Answer Answered → Type 0
+NextAnswered l input before after output-before output-after (Some a) =
+    LineAnswered (operation_of_line (take a.end input)) l before after output-before output-after (Some a.size)
+NextAnswered l input before after output-before output-after None =
     (after ≡ before) × (output-after ≡ output-before) × (IsLine input ⊎ NextTooLong input (length output-before))
 
-abbrev pub PromisesNext : (input before after output-before output-after : List ℕ) → Next → Type 0
+abbrev pub PromisesNext : (input before after output-before output-after : List ℕ) → Answer Answered → Type 0
 PromisesNext input before after output-before output-after r = OfLent before (λ l. NextAnswered l input before after output-before output-after r)
 
 -- the lines answered are those at the front of the input; their answers stand at the front of the output

@@ -6,32 +6,19 @@ ghost use Rattle.std.specs.Prelude.{◌≡◌, List, ◌∷◌, ◌++◌, ℕ, �
 ghost use Rattle.std.proofs.Math.Option.{none};
 ghost use Rattle.rules.specs.Frames.{longest_line, line_feed, line_of_bytes, operation_of_frame, operation_of_line};
 ghost use Rattle.frames.specs.Answering.{Known};
-ghost use Rattle.lines.specs.Batching.{PromisesLine, Ready, FirstFeed, next_of, NextFound, PromisesNext, PromisesBatch, ProgressWithin};
+ghost use Rattle.lines.specs.Batching.{PromisesLine, Ready, FirstFeed, NextFound, PromisesNext, PromisesBatch, ProgressWithin};
 
-use digits::Decoded;
 use frame_reader::LONGEST_FRAME;
 use frames::{LONGEST_LINE, LONGEST_OTHER_LINE};
+use refusals::Refusal;
 
 pub const LINE_FEED: u8 = 10;
 
-// How many characters of an answer line were written, its line feed among them, or that its longest answer has no room.
+// What comes of an input's first line: where its line feed stands and how many characters of its answer line were written.
 #[derive(Clone, Copy)]
-pub enum LineAnswer {
-    Written(usize),
-    OutputTooShort,
-}
-
-#[derive(Clone, Copy)]
-pub enum LineEnd {
-    At(usize),
-    Missing,
-}
-
-// What comes of an input's first line: where its line feed stands and how many characters of its answer line were written, or that none is answered.
-#[derive(Clone, Copy)]
-pub enum Next {
-    Answered { end: usize, size: usize },
-    Stopped,
+pub struct Answered {
+    pub end: usize,
+    pub size: usize,
 }
 
 // How much of the input was answered, and how much output was written.
@@ -54,7 +41,7 @@ fn finish(output: &mut [u8], size: usize) -> usize
 }
 
 // A frame's bytes. Only the room for its longest answer is lent on, so that the answer is no longer.
-fn answer_frame(room: &mut [u8], known: bool, bytes: &[u8], output: &mut [u8]) -> LineAnswer
+fn answer_frame(room: &mut [u8], known: bool, bytes: &[u8], output: &mut [u8]) -> Option<usize>
     requires { Known known room.old }
     ensures { PromisesLine (operation_of_frame bytes.now)
         room.old room.new output.old output.new result }
@@ -62,21 +49,21 @@ fn answer_frame(room: &mut [u8], known: bool, bytes: &[u8], output: &mut [u8]) -
     let frame = frame_reader::read(bytes);
     let needed = frames::room_for(frame);
     if output.len() < needed + needed + 1 {
-        return LineAnswer::OutputTooShort;
+        return None;
     }
     let size = frames::answer(room, known, bytes, frame, &mut output[..needed]);
-    LineAnswer::Written(finish(output, size))
+    Some(finish(output, size))
 }
 
 // A line that is no frame, or longer than any.
-fn answer_no_frame(output: &mut [u8]) -> LineAnswer
+fn answer_no_frame(output: &mut [u8]) -> Option<usize>
     ensures { (room : List ℕ) → PromisesLine none room room output.old output.new result }
 {
     if output.len() < LONGEST_OTHER_LINE {
-        return LineAnswer::OutputTooShort;
+        return None;
     }
-    let size = answer_bytes::write_number(output, 23);
-    LineAnswer::Written(finish(output, size))
+    let size = answers::write_refusal(output, Refusal::BadFrame);
+    Some(finish(output, size))
 }
 
 // A line on memory of which it is known whether it is the room of a sound ledger. The frame's bytes stand in the work room.
@@ -86,7 +73,7 @@ fn answer_line(
     line: &[u8],
     work: &mut [u8],
     output: &mut [u8],
-) -> LineAnswer
+) -> Option<usize>
     requires { Ready known room.old work.old }
     ensures { PromisesLine (operation_of_line line.now)
         room.old room.new output.old output.new result }
@@ -94,14 +81,14 @@ fn answer_line(
     if LONGEST_LINE < line.len() {
         return answer_no_frame(output);
     }
-    let Decoded::Bytes(size) = digits::bytes_of_line(line, work) else {
+    let Some(size) = digits::bytes_of_line(line, work) else {
         return answer_no_frame(output);
     };
     answer_frame(room, known, &work[..size], output)
 }
 
 // One line, for any memory, any characters and any output.
-pub fn answer(room: &mut [u8], line: &[u8], output: &mut [u8]) -> LineAnswer
+pub fn answer(room: &mut [u8], line: &[u8], output: &mut [u8]) -> Option<usize>
     ensures { PromisesLine (operation_of_line line.now)
         room.old room.new output.old output.new result }
 {
@@ -110,37 +97,25 @@ pub fn answer(room: &mut [u8], line: &[u8], output: &mut [u8]) -> LineAnswer
     answer_line(room, known, line, &mut work, output)
 }
 
-pub fn line_end(input: &[u8], from: usize) -> LineEnd
+pub fn line_end(input: &[u8], from: usize) -> Option<usize>
     requires { from ≤ length input.now }
     ensures { FirstFeed input.now from result }
 {
     let mut at = from;
     while at < input.len() {
         if input[at] == LINE_FEED {
-            return LineEnd::At(at);
+            return Some(at);
         }
         at += 1;
     }
-    LineEnd::Missing
+    None
 }
 
 // No longer line is decoded.
 fn front_limit(size: usize) -> usize
     ensures { (result ≤ size) × (result ≤ longest_line) × ((end : ℕ) → end ≤ size → end ≤ longest_line → end ≤ result) }
 {
-    if LONGEST_LINE < size {
-        return LONGEST_LINE;
-    }
-    size
-}
-
-fn next_at(end: usize, answer: LineAnswer) -> Next
-    ensures { result ≡ next_of end answer }
-{
-    match answer {
-        LineAnswer::Written(size) => Next::Answered { end, size },
-        LineAnswer::OutputTooShort => Next::Stopped,
-    }
+    size.min(LONGEST_LINE)
 }
 
 // The input's first line, each character read once: the line feed is looked for behind the digits, and a line that goes on behind them is no frame.
@@ -150,7 +125,7 @@ fn answer_next(
     input: &[u8],
     work: &mut [u8],
     output: &mut [u8],
-) -> Next
+) -> Option<Answered>
     requires { Ready known room.old work.old }
     ensures found { NextFound input.now result }
     ensures answered { PromisesNext input.now
@@ -159,13 +134,13 @@ fn answer_next(
     let limit = front_limit(input.len());
     let size = digits::front_bytes(&input[..limit], work);
     let from = size + size;
-    let LineEnd::At(end) = line_end(input, from) else {
-        return Next::Stopped;
+    let end = line_end(input, from)?;
+    let size = if from < end {
+        answer_no_frame(output)?
+    } else {
+        answer_frame(room, known, &work[..size], output)?
     };
-    if from < end {
-        return next_at(end, answer_no_frame(output));
-    }
-    next_at(end, answer_frame(room, known, &work[..size], output))
+    Some(Answered { end, size })
 }
 
 // Line after line, each whole, until none is left or the next one's answer might not fit.
@@ -184,7 +159,7 @@ fn answer_lines(
     let mut used = 0;
     let mut written = 0;
     while used < input.len() {
-        let Next::Answered { end, size } = answer_next(
+        let Some(answered) = answer_next(
             room,
             known,
             &input[used..],
@@ -193,8 +168,8 @@ fn answer_lines(
         ) else {
             return Progress { used, written };
         };
-        used += end + 1;
-        written += size;
+        used += answered.end + 1;
+        written += answered.size;
     }
     Progress { used, written }
 }

@@ -3,44 +3,36 @@
 
 #![tactic(auto)]
 
-ghost use Rattle.std.specs.Prelude.{◌≡◌, ◌++◌, ◌≤◌, length, drop};
+ghost use Rattle.std.specs.Prelude.{◌≡◌, ◌++◌, ◌≤◌, length, drop, IfOk};
 ghost use Rattle.std.proofs.Math.Option.{none};
 ghost use Rattle.rules.specs.RoomAndSoundLedger.{M};
 ghost use Rattle.rules.specs.SnapshotsMigrationCertificates.{bytes_of, reply_or, migrate, output_after};
+ghost use Rattle.refusals.specs.Answers.{refusal_in, answer_of, carries_snapshot};
 ghost use Rattle.snapshot_reader.specs.Standing.{IsSnapshot, OfSnapshot};
-ghost use Rattle.validation.specs.Judgement.{refusal_in, InStoredForm};
-ghost use Rattle.migration.specs.Migrated.{migrated_to, migrated_reply};
+ghost use Rattle.migration.specs.Migrated.{migrated_to};
 
-use validation::{Judged, Verdict};
+use refusals::Refusal;
 
 // 19; 16 of a version that has the tag already; 17 of a fence that no version could carry; then the validation, and 22 last.
-fn refusal(bytes: &[u8], fence: u64, size: usize) -> Judged
+fn check(bytes: &[u8], fence: u64, size: usize) -> Result<(), Refusal>
     requires { IsSnapshot bytes.now }
     ensures answer { OfSnapshot bytes.now (λ s. reply_or (refusal_in result) (migrated_to fence s) ≡ migrate size fence s) }
-    ensures room { refusal_in result ≡ none → (fence ≤ M) × (length bytes.now ≤ size) }
-    ensures form { InStoredForm result }
+    ensures room { IfOk result (λ _. (fence ≤ M) × (length bytes.now ≤ size)) }
 {
     if snapshot_reader::has_long_name(bytes) {
-        return validation::nameless(Verdict::NameTooLong);
+        return Err(Refusal::NameTooLong);
     }
     if big_endian::has_tag(snapshot_reader::version(bytes)) {
-        return validation::nameless(Verdict::AlreadyRecoveryAware);
+        return Err(Refusal::AlreadyRecoveryAware);
     }
-    if fence == 0 {
-        return validation::nameless(Verdict::InvalidAllocatorFence(fence));
+    if fence == 0 || rules::M < fence {
+        return Err(Refusal::InvalidAllocatorFence(fence));
     }
-    if rules::M < fence {
-        return validation::nameless(Verdict::InvalidAllocatorFence(fence));
-    }
-    let judged = validation::validation(bytes);
-    let verdict = judged.verdict;
-    let Verdict::Done = verdict else {
-        return judged;
-    };
+    validation::validation(bytes)?;
     if size < bytes.len() {
-        return validation::nameless(Verdict::OutputTooShort);
+        return Err(Refusal::OutputTooShort);
     }
-    validation::nameless(Verdict::Done)
+    Ok(())
 }
 
 // The bytes supplied, and then the version over the first eight of them.
@@ -52,19 +44,16 @@ fn write_migrated(bytes: &[u8], version: u64, output: &mut [u8])
     big_endian::write8(&mut output[0..8], version);
 }
 
-pub fn migrate(bytes: &[u8], fence: u64, output: &mut [u8]) -> Judged
+// How many bytes the migrated snapshot has: as many as the one supplied.
+pub fn migrate(bytes: &[u8], fence: u64, output: &mut [u8]) -> Result<usize, Refusal>
     requires { IsSnapshot bytes.now }
     ensures answer { OfSnapshot bytes.now
-        (λ s. migrated_reply (length bytes.now) output.new result ≡ migrate (length output.old) fence s) }
-    ensures output { output.new ≡ output_after (migrated_reply (length bytes.now) output.new result) output.old }
-    ensures form { InStoredForm result }
+        (λ s. answer_of (carries_snapshot output.new) result ≡ migrate (length output.old) fence s) }
+    ensures output { output.new ≡ output_after (answer_of (carries_snapshot output.new) result) output.old }
+    ensures size { IfOk result (λ size. (size ≡ length bytes.now) × (size ≤ length output.old)) }
 {
-    let judged = refusal(bytes, fence, output.len());
-    let verdict = judged.verdict;
-    let Verdict::Done = verdict else {
-        return judged;
-    };
+    check(bytes, fence, output.len())?;
     let version = big_endian::tagged(fence);
     write_migrated(bytes, version, output);
-    judged
+    Ok(bytes.len())
 }

@@ -10,12 +10,12 @@ use lib.Signed.{lt_z, mag}
 use mir.Syntax.{w64}
 use mir.Val.{to_z, of_z}
 use mir.Facts.{to_z-of_z}
+use Rattle.std.specs.Prelude.{Some, None}
 use Rattle.rules.specs.RoomAndSoundLedger.{M}
 use Rattle.rules.specs.AccountRules.{natural}
 use Rattle.rules.specs.Domain.{IsAmount}
 use Rattle.rules.proofs.Tests.{by-test}
 use Rattle.rules.proofs.Delta.{difference}
-use Rattle.std.specs.Prelude.{Some, None}
 use Rattle.numbers.specs.Amounts.{sum_of, natural_of, positive_of, remainder_of}
 
 -- ── sums ───────────────────────────────────────────────────────────────────────────────────────

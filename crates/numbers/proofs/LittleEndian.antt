@@ -44,7 +44,7 @@ little-bytes (b ∷ bs) (h, k) =
 
 -- ── as std writes: each byte by a division of its own ──────────────────────────────────────────
 
-byte-is : (i n : ℕ) → byte_at i n ≡ n / 256 ^ i % 256
+pub byte-is : (i n : ℕ) → byte_at i n ≡ n / 256 ^ i % 256
 byte-is zero n = rw div-one
 byte-is (suc i) n = refl
 

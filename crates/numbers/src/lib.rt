@@ -20,7 +20,7 @@ pub struct Microcents(pub i64);
 #[derive(Clone, Copy)]
 pub struct Held(pub u64);
 
-// A part of bytes as an array, for std's readings of numbers: one load, and no copy is left of it.
+// A part of bytes as the array that std reads a number from. The two together compile to one load.
 pub fn array_of<const N: usize>(bytes: &[u8]) -> [u8; N]
     requires { (0 < N) × (length bytes.now ≡ N) }
     ensures { result ≡ bytes.now }
@@ -46,7 +46,7 @@ pub fn read2(bytes: &[u8]) -> u64
     requires { length bytes.now ≡ 2 }
     ensures { result ≡ little_number bytes.now }
 {
-    u16::from_le_bytes(array_of(bytes)).into()
+    u64::from(u16::from_le_bytes(array_of(bytes)))
 }
 
 // Of a number that two bytes do not hold, the lower two are written.
@@ -81,12 +81,13 @@ pub fn copy(bytes: &[u8], output: &mut [u8])
     output[..bytes.len()].copy_from_slice(bytes);
 }
 
-// A sum that may not be above M.
+// A sum that may not be above M. One that 64 bits do not hold saturates, and so is above M as well.
 #[tactic(auto, unfolding(rules::specs::RoomAndSoundLedger::M))]
 pub fn plus(a: u64, b: u64) -> Option<u64>
     ensures { result ≡ sum_of a b }
 {
-    a.checked_add(b).filter(|sum| *sum <= rules::M)
+    let sum = a.saturating_add(b);
+    (sum <= rules::M).then_some(sum)
 }
 
 // An amount that is not negative: tables hold amounts as unsigned numbers.

@@ -1,12 +1,11 @@
 -- An answer that is handed in as words and a part, kind by kind: whether it can be written, and its bytes. Word 0 is its number, word 1 that of the first value.
-use Rattle.std.specs.Prelude.{◌≡◌, Bool, false, cond, not, ◌||◌, List, [], ◌∷◌, ◌++◌, ℕ, suc, ◌≤◌, ltb, length, get_or}
-use Rattle.std.proofs.Math.Option.{Option, none, some}
+use Rattle.std.specs.Prelude.{◌≡◌, Bool, false, cond, not, ◌||◌, List, [], ◌∷◌, ◌++◌, ℕ, suc, ◌≤◌, ltb, length, get_or, Result, Ok, Err}
 use Rattle.rules.specs.AnswerNumbers.{Value, Identifier, Field, TheName, Reply, reply}
 use Rattle.rules.specs.AccountRules.{is_too_long}
 use Rattle.rules.specs.SnapshotsMigrationCertificates.{snapshot_of_bytes}
 use Rattle.rules.specs.Recorder.{long_in}
-use Rattle.snapshot_reader.specs.declared.Checked.{Checked}
-use Rattle.snapshot_reader.specs.declared.Checked.TheVariants.{Passes, NameTooLong, BadFrame}
+use Rattle.refusals.specs.declared.Refusal.{Refusal}
+use Rattle.refusals.specs.declared.Refusal.TheVariants.{NameTooLong, BadFrame}
 use Rattle.snapshot_reader.specs.Standing.{is_read}
 use Rattle.recorder.specs.Shapes.{Kind, a_word, a_byte, a_flag, a_name, a_snapshot}
 
@@ -35,9 +34,8 @@ abbrev pub long_is_in : List Kind → (part : List ℕ) → Bool
 long_is_in [] part = false
 long_is_in (k ∷ ks) part = is_long k part || long_is_in ks part
 
-abbrev pub judged_as : Option (List Kind) → (words part : List ℕ) → Checked
-judged_as none words part = BadFrame
-judged_as (some ks) words part = cond (bad_from ks 1 words part) BadFrame (cond (long_is_in ks part) NameTooLong Passes)
+abbrev pub judged_as : List Kind → (words part : List ℕ) → Result (Unit {0}) Refusal
+judged_as ks words part = cond (bad_from ks 1 words part) (Err BadFrame) (cond (long_is_in ks part) (Err NameTooLong) (Ok tt))
 
 -- ── the bytes ──────────────────────────────────────────────────────────────────────────────────
 
@@ -53,9 +51,8 @@ abbrev pub plain_from : List Kind → (at : ℕ) → (words part : List ℕ) →
 plain_from [] at words part = []
 plain_from (k ∷ ks) at words part = plain k (get_or words at 0) part ++ plain_from ks (suc at) words part
 
-abbrev pub head_of : Option (List Kind) → (number : ℕ) → (words part : List ℕ) → Reply
-head_of none number words part = reply number []
-head_of (some ks) number words part = reply number (plain_from ks 1 words part)
+abbrev pub head_of : List Kind → (number : ℕ) → (words part : List ℕ) → Reply
+head_of ks number words part = reply number (plain_from ks 1 words part)
 
 -- a snapshot is carried alone
 abbrev pub tail_at : Kind → (part : List ℕ) → List ℕ
@@ -65,17 +62,11 @@ tail_at a_flag part = []
 tail_at a_name part = []
 tail_at a_snapshot part = part
 
-abbrev pub tail_of : Option (List Kind) → (part : List ℕ) → List ℕ
-tail_of none part = []
-tail_of (some []) part = []
-tail_of (some (k ∷ ks)) part = tail_at k part
-
--- how many values
-abbrev pub count_in : Option (List Kind) → ℕ
-count_in none = 0
-count_in (some ks) = length ks
+abbrev pub tail_of : List Kind → (part : List ℕ) → List ℕ
+tail_of [] part = []
+tail_of (k ∷ ks) part = tail_at k part
 
 -- what can be written: it has passed, and behind another number than 0 stand at most three values
-pub record Writable (ks : Option (List Kind)) (number : ℕ) (words part : List ℕ) : Type 0 where
-  pub passes : judged_as ks words part ≡ Passes
-  pub done : 4 ≤ count_in ks → number ≡ 0
+pub record Writable (ks : List Kind) (number : ℕ) (words part : List ℕ) : Type 0 where
+  pub passes : judged_as ks words part ≡ Ok tt
+  pub done : 4 ≤ length ks → number ≡ 0

@@ -1,5 +1,5 @@
 -- The shapes that answers have: the kinds of what they carry, one behind the other.
-use Rattle.std.specs.Prelude.{List, [], ◌∷◌, map}
+use Rattle.std.specs.Prelude.{List, [], ◌∷◌, map, Option as Answer, Some, None}
 use Rattle.std.proofs.Math.Option.{Option, none, some}
 use Rattle.rules.specs.AnswerNumbers.{Value, Amount, Identifier, Version, Fence, Count, Field, YesOrNo, TheName, SnapshotBytes, Reply}
 use Rattle.recorder.specs.declared.answer_table.Shape.{Shape}
@@ -20,18 +20,22 @@ kind_of (YesOrNo b) = a_flag
 kind_of (TheName a) = a_name
 kind_of (SnapshotBytes bs) = a_snapshot
 
-abbrev pub kinds_of : Shape → Option (List Kind)
-kinds_of shape.NoAnswer = none
-kinds_of shape.Nothing = some []
-kinds_of shape.Word = some (a_word ∷ [])
-kinds_of shape.TwoWords = some (a_word ∷ a_word ∷ [])
-kinds_of shape.ThreeWords = some (a_word ∷ a_word ∷ a_word ∷ [])
-kinds_of shape.Named = some (a_name ∷ [])
-kinds_of shape.NamedWord = some (a_name ∷ a_word ∷ [])
-kinds_of shape.NamedField = some (a_name ∷ a_byte ∷ a_word ∷ [])
-kinds_of shape.Snapshot = some (a_snapshot ∷ [])
-kinds_of shape.Certificate = some (a_word ∷ a_word ∷ a_word ∷ a_flag ∷ a_word ∷ a_word ∷ a_flag ∷ a_word ∷ [])
-kinds_of shape.Proof = some (a_word ∷ a_word ∷ a_word ∷ a_word ∷ a_word ∷ a_flag ∷ [])
+abbrev pub kinds_of : Shape → List Kind
+kinds_of shape.Nothing = []
+kinds_of shape.Word = a_word ∷ []
+kinds_of shape.TwoWords = a_word ∷ a_word ∷ []
+kinds_of shape.ThreeWords = a_word ∷ a_word ∷ a_word ∷ []
+kinds_of shape.Named = a_name ∷ []
+kinds_of shape.NamedWord = a_name ∷ a_word ∷ []
+kinds_of shape.NamedField = a_name ∷ a_byte ∷ a_word ∷ []
+kinds_of shape.Snapshot = a_snapshot ∷ []
+kinds_of shape.Certificate = a_word ∷ a_word ∷ a_word ∷ a_flag ∷ a_word ∷ a_word ∷ a_flag ∷ a_word ∷ []
+kinds_of shape.Proof = a_word ∷ a_word ∷ a_word ∷ a_word ∷ a_word ∷ a_flag ∷ []
+
+-- of what stands behind a number, or none where it is no answer
+abbrev pub kinds_behind : Answer Shape → Option (List Kind)
+kinds_behind None = none
+kinds_behind (Some s) = some (kinds_of s)
 
 -- the kinds of what a form carries, or none for no form
 abbrev pub kinds_in : Option Reply → Option (List Kind)

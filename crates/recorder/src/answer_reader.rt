@@ -5,7 +5,7 @@ ghost use Rattle.std.proofs.Math.Option.{some};
 ghost use Rattle.rules.specs.SnapshotsMigrationCertificates.{number_of};
 ghost use Rattle.rules.specs.Recorder.{answer_of_bytes};
 ghost use Rattle.recorder.specs.Shapes.{a_word, a_byte, a_flag, a_name, a_snapshot, kinds_of};
-ghost use Rattle.recorder.specs.Reading.{HasNumber, listed, values_in, Carries, CarriesAs, NameEnds, ReadsAnswer, ReadsLine};
+ghost use Rattle.recorder.specs.Reading.{HasNumber, values_in, Carries, NameEnds, ReadsAnswer, ReadsLine};
 
 use crate::answer_table::Shape;
 use crate::{MOST_WORDS, answer_table};
@@ -13,7 +13,7 @@ use answer_bytes::{
     BALANCED_END, COMMITTED_END, INITIAL_END, LONGEST_OTHER_ANSWER, ONE_WORD, PROOF_SIZE,
     PROVED_COMMITTED_END, PROVED_INITIAL_END, REPRESENTABLE_END, THREE_WORDS, TWO_WORDS,
 };
-use snapshot_reader::Checked;
+use refusals::Refusal;
 
 const NAME_START: usize = 1 + 1;
 
@@ -21,52 +21,13 @@ const FIELD_AND_WORD: usize = 1 + 8;
 
 const YES: u64 = 1;
 
-#[derive(Clone, Copy)]
-pub enum AnswerRead {
-    Answer,
-    OutputTooShort,
-    BadFrame,
-}
-
 // What an answer carries, a word for each value, and zero for none.
-#[derive(Clone, Copy)]
-struct Values {
-    first: u64,
-    second: u64,
-    third: u64,
-    fourth: u64,
-    fifth: u64,
-    sixth: u64,
-    seventh: u64,
-    eighth: u64,
-}
+type Values = [u64; MOST_WORDS - 1];
 
-#[derive(Clone, Copy)]
-enum Carried {
-    Values(Values),
-    BadFrame,
-}
-
-#[derive(Clone, Copy)]
-enum NameEnd {
-    At(usize),
-    BadFrame,
-}
-
-fn up_to_three(first: u64, second: u64, third: u64) -> Carried
+fn up_to_three(first: u64, second: u64, third: u64) -> Option<Values>
     ensures { values_in result ≡ some (first ∷ second ∷ third ∷ 0 ∷ 0 ∷ 0 ∷ 0 ∷ 0 ∷ []) }
 {
-    let values = Values {
-        first,
-        second,
-        third,
-        fourth: 0,
-        fifth: 0,
-        sixth: 0,
-        seventh: 0,
-        eighth: 0,
-    };
-    Carried::Values(values)
+    Some([first, second, third, 0, 0, 0, 0, 0])
 }
 
 fn word_at(bytes: &[u8], from: usize) -> u64
@@ -84,42 +45,42 @@ fn byte_at(bytes: &[u8], place: usize) -> u64
     bytes[place] as u64
 }
 
-fn read_nothing(bytes: &[u8]) -> Carried
+fn read_nothing(bytes: &[u8]) -> Option<Values>
     requires { HasNumber bytes.now }
     ensures { Carries [] bytes.now result }
 {
     if bytes.len() != 1 {
-        return Carried::BadFrame;
+        return None;
     }
     up_to_three(0, 0, 0)
 }
 
-fn read_word(bytes: &[u8]) -> Carried
+fn read_word(bytes: &[u8]) -> Option<Values>
     requires { HasNumber bytes.now }
     ensures { Carries (a_word ∷ []) bytes.now result }
 {
     if bytes.len() != ONE_WORD {
-        return Carried::BadFrame;
+        return None;
     }
     up_to_three(word_at(bytes, 1), 0, 0)
 }
 
-fn read_two_words(bytes: &[u8]) -> Carried
+fn read_two_words(bytes: &[u8]) -> Option<Values>
     requires { HasNumber bytes.now }
     ensures { Carries (a_word ∷ a_word ∷ []) bytes.now result }
 {
     if bytes.len() != TWO_WORDS {
-        return Carried::BadFrame;
+        return None;
     }
     up_to_three(word_at(bytes, 1), word_at(bytes, ONE_WORD), 0)
 }
 
-fn read_three_words(bytes: &[u8]) -> Carried
+fn read_three_words(bytes: &[u8]) -> Option<Values>
     requires { HasNumber bytes.now }
     ensures { Carries (a_word ∷ a_word ∷ a_word ∷ []) bytes.now result }
 {
     if bytes.len() != THREE_WORDS {
-        return Carried::BadFrame;
+        return None;
     }
     up_to_three(
         word_at(bytes, 1),
@@ -129,54 +90,48 @@ fn read_three_words(bytes: &[u8]) -> Carried
 }
 
 // Behind the number stands the length of a name, which no place holds where it is more than 24.
-fn name_end(bytes: &[u8]) -> NameEnd
+fn name_end(bytes: &[u8]) -> Option<usize>
     ensures { NameEnds bytes.now result }
 {
     if bytes.len() < NAME_START {
-        return NameEnd::BadFrame;
+        return None;
     }
     let size = bytes[1] as usize;
     if rules::LONGEST_NAME < size {
-        return NameEnd::BadFrame;
+        return None;
     }
-    NameEnd::At(NAME_START + size)
+    Some(NAME_START + size)
 }
 
-fn read_name(bytes: &[u8]) -> Carried
+fn read_name(bytes: &[u8]) -> Option<Values>
     requires { HasNumber bytes.now }
     ensures { Carries (a_name ∷ []) bytes.now result }
 {
-    let NameEnd::At(end) = name_end(bytes) else {
-        return Carried::BadFrame;
-    };
+    let end = name_end(bytes)?;
     if bytes.len() != end {
-        return Carried::BadFrame;
+        return None;
     }
     up_to_three((end - NAME_START) as u64, 0, 0)
 }
 
-fn read_name_and_word(bytes: &[u8]) -> Carried
+fn read_name_and_word(bytes: &[u8]) -> Option<Values>
     requires { HasNumber bytes.now }
     ensures { Carries (a_name ∷ a_word ∷ []) bytes.now result }
 {
-    let NameEnd::At(end) = name_end(bytes) else {
-        return Carried::BadFrame;
-    };
+    let end = name_end(bytes)?;
     if bytes.len() != end + 8 {
-        return Carried::BadFrame;
+        return None;
     }
     up_to_three((end - NAME_START) as u64, word_at(bytes, end), 0)
 }
 
-fn read_name_and_field(bytes: &[u8]) -> Carried
+fn read_name_and_field(bytes: &[u8]) -> Option<Values>
     requires { HasNumber bytes.now }
     ensures { Carries (a_name ∷ a_byte ∷ a_word ∷ []) bytes.now result }
 {
-    let NameEnd::At(end) = name_end(bytes) else {
-        return Carried::BadFrame;
-    };
+    let end = name_end(bytes)?;
     if bytes.len() != end + FIELD_AND_WORD {
-        return Carried::BadFrame;
+        return None;
     }
     up_to_three(
         (end - NAME_START) as u64,
@@ -185,77 +140,70 @@ fn read_name_and_field(bytes: &[u8]) -> Carried
     )
 }
 
-fn read_snapshot(bytes: &[u8]) -> Carried
+fn read_snapshot(bytes: &[u8]) -> Option<Values>
     requires { HasNumber bytes.now }
     ensures { Carries (a_snapshot ∷ []) bytes.now result }
 {
-    let checked = snapshot_reader::check(&bytes[1..]);
-    match checked {
-        Checked::Passes => up_to_three((bytes.len() - 1) as u64, 0, 0),
-        Checked::NameTooLong => Carried::BadFrame,
-        Checked::BadFrame => Carried::BadFrame,
-    }
+    snapshot_reader::check(&bytes[1..]).ok()?;
+    up_to_three((bytes.len() - 1) as u64, 0, 0)
 }
 
 // Either yes or no is a byte of 0 or 1.
-fn read_certificate(bytes: &[u8]) -> Carried
+fn read_certificate(bytes: &[u8]) -> Option<Values>
     requires { HasNumber bytes.now }
     ensures { Carries (a_word ∷ a_word ∷ a_word ∷ a_flag ∷ a_word ∷ a_word ∷ a_flag ∷ a_word ∷ []) bytes.now result }
 {
     if bytes.len() != LONGEST_OTHER_ANSWER {
-        return Carried::BadFrame;
+        return None;
     }
-    let fourth = byte_at(bytes, THREE_WORDS);
-    if YES < fourth {
-        return Carried::BadFrame;
+    let balanced = byte_at(bytes, THREE_WORDS);
+    if YES < balanced {
+        return None;
     }
-    let seventh = byte_at(bytes, COMMITTED_END);
-    if YES < seventh {
-        return Carried::BadFrame;
+    let representable = byte_at(bytes, COMMITTED_END);
+    if YES < representable {
+        return None;
     }
-    let values = Values {
-        first: word_at(bytes, 1),
-        second: word_at(bytes, ONE_WORD),
-        third: word_at(bytes, TWO_WORDS),
-        fourth,
-        fifth: word_at(bytes, BALANCED_END),
-        sixth: word_at(bytes, INITIAL_END),
-        seventh,
-        eighth: word_at(bytes, REPRESENTABLE_END),
-    };
-    Carried::Values(values)
+    Some([
+        word_at(bytes, 1),
+        word_at(bytes, ONE_WORD),
+        word_at(bytes, TWO_WORDS),
+        balanced,
+        word_at(bytes, BALANCED_END),
+        word_at(bytes, INITIAL_END),
+        representable,
+        word_at(bytes, REPRESENTABLE_END),
+    ])
 }
 
-fn read_proof(bytes: &[u8]) -> Carried
+fn read_proof(bytes: &[u8]) -> Option<Values>
     requires { HasNumber bytes.now }
     ensures { Carries (a_word ∷ a_word ∷ a_word ∷ a_word ∷ a_word ∷ a_flag ∷ []) bytes.now result }
 {
     if bytes.len() != PROOF_SIZE {
-        return Carried::BadFrame;
+        return None;
     }
-    let sixth = byte_at(bytes, PROVED_COMMITTED_END);
-    if YES < sixth {
-        return Carried::BadFrame;
+    let proved = byte_at(bytes, PROVED_COMMITTED_END);
+    if YES < proved {
+        return None;
     }
-    let values = Values {
-        first: word_at(bytes, 1),
-        second: word_at(bytes, ONE_WORD),
-        third: word_at(bytes, TWO_WORDS),
-        fourth: word_at(bytes, THREE_WORDS),
-        fifth: word_at(bytes, PROVED_INITIAL_END),
-        sixth,
-        seventh: 0,
-        eighth: 0,
-    };
-    Carried::Values(values)
+    Some([
+        word_at(bytes, 1),
+        word_at(bytes, ONE_WORD),
+        word_at(bytes, TWO_WORDS),
+        word_at(bytes, THREE_WORDS),
+        word_at(bytes, PROVED_INITIAL_END),
+        proved,
+        0,
+        0,
+    ])
 }
 
-fn read_carried(shape: Shape, bytes: &[u8]) -> Carried
+fn read_carried(shape: Shape, bytes: &[u8]) -> Option<Values>
     requires { HasNumber bytes.now }
-    ensures { CarriesAs (kinds_of shape) bytes.now result }
+    ensures { Carries (kinds_of shape) bytes.now result }
 {
     match shape {
-        Shape::NoAnswer => Carried::BadFrame,
         Shape::Nothing => read_nothing(bytes),
         Shape::Word => read_word(bytes),
         Shape::TwoWords => read_two_words(bytes),
@@ -270,35 +218,28 @@ fn read_carried(shape: Shape, bytes: &[u8]) -> Carried
 }
 
 fn store(number: u8, values: Values, words: &mut [u64; MOST_WORDS])
-    ensures { words.new ≡ number ∷ listed values }
+    ensures { words.new ≡ number ∷ values.entry }
 {
-    *words = [
-        number as u64,
-        values.first,
-        values.second,
-        values.third,
-        values.fourth,
-        values.fifth,
-        values.sixth,
-        values.seventh,
-        values.eighth,
-    ];
+    words[0] = number as u64;
+    words[1..].copy_from_slice(&values);
 }
 
 // The words are stored once, at the end: bytes that are no answer leave them as they were.
-pub fn read_answer_bytes(code: u8, bytes: &[u8], words: &mut [u64; MOST_WORDS]) -> AnswerRead
+pub fn read_answer_bytes(code: u8, bytes: &[u8], words: &mut [u64; MOST_WORDS]) -> Result<(), Refusal>
     ensures { ReadsAnswer (answer_of_bytes code bytes.now) words.old words.new result }
 {
     if bytes.len() == 0 {
-        return AnswerRead::BadFrame;
+        return Err(Refusal::BadFrame);
     }
     let number = bytes[0];
-    let shape = answer_table::shape_of(code, number as u64);
-    let Carried::Values(values) = read_carried(shape, bytes) else {
-        return AnswerRead::BadFrame;
+    let Some(shape) = answer_table::shape_of(code, number as u64) else {
+        return Err(Refusal::BadFrame);
+    };
+    let Some(values) = read_carried(shape, bytes) else {
+        return Err(Refusal::BadFrame);
     };
     store(number, values, words);
-    AnswerRead::Answer
+    Ok(())
 }
 
 // The line's bytes are put into the lent ones, and read there. An odd character is no pair of digits, so half of a line is rounded up.
@@ -307,15 +248,15 @@ pub fn read_answer(
     line: &[u8],
     bytes: &mut [u8],
     words: &mut [u64; MOST_WORDS],
-) -> AnswerRead
+) -> Result<(), Refusal>
     ensures { ReadsLine code line.now bytes.old bytes.new words.old words.new result }
 {
     if bytes.len() < line.len() - line.len() / 2 {
-        return AnswerRead::OutputTooShort;
+        return Err(Refusal::OutputTooShort);
     }
     let size = digits::front_bytes(line, bytes);
     if size + size < line.len() {
-        return AnswerRead::BadFrame;
+        return Err(Refusal::BadFrame);
     }
     read_answer_bytes(code, &bytes[..size], words)
 }

@@ -1,14 +1,12 @@
 // Which answers an operation can get, and what each carries (document 01, "Answer numbers" and the rules): one table for writing and reading.
 ghost use Rattle.std.specs.Prelude.{◌≡◌};
-ghost use Rattle.std.proofs.Math.Option.{some};
 ghost use Rattle.rules.specs.Recorder.{form_of};
-ghost use Rattle.recorder.specs.Shapes.{kinds_of, kinds_in};
+ghost use Rattle.recorder.specs.Shapes.{kinds_of, kinds_behind, kinds_in};
 ghost use Rattle.recorder.specs.Refusals.{refusal_set, carried_by};
 
 // What stands behind an answer's number.
 #[derive(Clone, Copy)]
 pub enum Shape {
-    NoAnswer,
     Nothing,
     Word,
     TwoWords,
@@ -133,31 +131,31 @@ fn refusals(code: u8) -> u32
 }
 
 // What stands behind 0.
-fn done_shape(code: u8) -> Shape
-    ensures { kinds_of result ≡ kinds_in (form_of code 0) }
+fn done_shape(code: u8) -> Option<Shape>
+    ensures { kinds_behind result ≡ kinds_in (form_of code 0) }
 {
     match code {
-        1 => Shape::Nothing,
-        2 => Shape::ThreeWords,
-        3 => Shape::Nothing,
-        4 => Shape::TwoWords,
-        5 => Shape::TwoWords,
-        6 => Shape::TwoWords,
-        7 => Shape::Snapshot,
-        8 => Shape::Nothing,
-        9 => Shape::Nothing,
-        10 => Shape::Snapshot,
-        11 => Shape::Certificate,
-        12 => Shape::Certificate,
-        13 => Shape::Proof,
-        14 => Shape::Nothing,
-        _ => Shape::NoAnswer,
+        1 => Some(Shape::Nothing),
+        2 => Some(Shape::ThreeWords),
+        3 => Some(Shape::Nothing),
+        4 => Some(Shape::TwoWords),
+        5 => Some(Shape::TwoWords),
+        6 => Some(Shape::TwoWords),
+        7 => Some(Shape::Snapshot),
+        8 => Some(Shape::Nothing),
+        9 => Some(Shape::Nothing),
+        10 => Some(Shape::Snapshot),
+        11 => Some(Shape::Certificate),
+        12 => Some(Shape::Certificate),
+        13 => Some(Shape::Proof),
+        14 => Some(Shape::Nothing),
+        _ => None,
     }
 }
 
 // What stands behind a refusal's number.
 fn carried(number: u64) -> Shape
-    ensures { kinds_of result ≡ some (carried_by number) }
+    ensures { kinds_of result ≡ carried_by number }
 {
     match number {
         1 => Shape::Word,
@@ -175,22 +173,22 @@ fn carried(number: u64) -> Shape
     }
 }
 
-pub fn shape_of(code: u8, number: u64) -> Shape
-    ensures { kinds_of result ≡ kinds_in (form_of code number) }
+pub fn shape_of(code: u8, number: u64) -> Option<Shape>
+    ensures { kinds_behind result ≡ kinds_in (form_of code number) }
 {
     if number == 0 {
         return done_shape(code);
     }
     if LAST_NUMBER < number {
-        return Shape::NoAnswer;
+        return None;
     }
     if (refusals(code) >> number) % 2 == 0 {
-        return Shape::NoAnswer;
+        return None;
     }
     if number == OVERFLOW_NUMBER {
         if code == TOP_UP {
-            return Shape::Nothing;
+            return Some(Shape::Nothing);
         }
     }
-    carried(number)
+    Some(carried(number))
 }

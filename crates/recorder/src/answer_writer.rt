@@ -1,5 +1,6 @@
 // An answer as its line, from its number, a word for each value that it carries, and the name or the snapshot among them. 23 comes first, then 19, then 22.
 ghost use Rattle.std.specs.Prelude.{◌≡◌, cond, false, ◌||◌, List, ◌++◌, ℕ, ◌≤◌, ltb, length, drop, get_or};
+ghost use Rattle.refusals.specs.declared.Refusal.TheVariants.{NameTooLong, BadFrame};
 ghost use Rattle.rules.specs.AccountRules.{is_too_long};
 ghost use Rattle.rules.specs.Domain.{IsWord};
 ghost use Rattle.rules.specs.Frames.{reply_bytes, line_of_bytes};
@@ -11,56 +12,51 @@ ghost use Rattle.recorder.specs.Shapes.{kinds_of};
 ghost use Rattle.recorder.specs.AnswerWords.{judged_as, head_of, tail_of, Writable};
 
 use crate::answer_table::{LAST_NUMBER, Shape, shape_of};
-use crate::{MOST_WORDS, Recorded};
+use crate::MOST_WORDS;
 use answer_bytes::{
     LONGEST_OTHER_ANSWER, write_named, write_named_field, write_named_word, write_number,
     write_three_words, write_two_words, write_word,
 };
-use snapshot_reader::Checked;
+use refusals::Refusal;
 
 const LARGEST_FIELD: u64 = 255;
 
 const YES: u64 = 1;
 
 // A name of at most 24 bytes, with a field's number or 0.
-fn judge_name(field: u64, name: &[u8]) -> Checked
+fn judge_name(field: u64, name: &[u8]) -> Result<(), Refusal>
     ensures { result
-        ≡ cond (ltb 255 field || false) Checked.BadFrame
-        (cond (is_too_long name.now || false) Checked.NameTooLong Checked.Passes) }
+        ≡ cond (ltb 255 field || false) (Err BadFrame)
+        (cond (is_too_long name.now || false) (Err NameTooLong) (Ok tt)) }
 {
     if LARGEST_FIELD < field {
-        return Checked::BadFrame;
+        return Err(Refusal::BadFrame);
     }
     if rules::LONGEST_NAME < name.len() {
-        return Checked::NameTooLong;
+        return Err(Refusal::NameTooLong);
     }
-    Checked::Passes
+    Ok(())
 }
 
 // Yes is 1 and no is 0.
-fn judge_flags(first: u64, second: u64) -> Checked
-    ensures { result ≡ cond (ltb 1 first || (ltb 1 second || false)) Checked.BadFrame Checked.Passes }
+fn judge_flags(first: u64, second: u64) -> Result<(), Refusal>
+    ensures { result ≡ cond (ltb 1 first || (ltb 1 second || false)) (Err BadFrame) (Ok tt) }
 {
     if YES < first {
-        return Checked::BadFrame;
+        return Err(Refusal::BadFrame);
     }
     if YES < second {
-        return Checked::BadFrame;
+        return Err(Refusal::BadFrame);
     }
-    Checked::Passes
+    Ok(())
 }
 
-fn judge(shape: Shape, words: &[u64; MOST_WORDS], part: &[u8]) -> Checked
+fn judge(shape: Shape, words: &[u64; MOST_WORDS], part: &[u8]) -> Result<(), Refusal>
     ensures { result ≡ judged_as (kinds_of shape) words.now part.now }
 {
     match shape {
-        Shape::NoAnswer => Checked::BadFrame,
-        Shape::Nothing => Checked::Passes,
-        Shape::Word => Checked::Passes,
-        Shape::TwoWords => Checked::Passes,
-        Shape::ThreeWords => Checked::Passes,
-        Shape::Named => judge_name(0, part),
-        Shape::NamedWord => judge_name(0, part),
+        Shape::Nothing | Shape::Word | Shape::TwoWords | Shape::ThreeWords => Ok(()),
+        Shape::Named | Shape::NamedWord => judge_name(0, part),
         Shape::NamedField => judge_name(words[2], part),
         Shape::Snapshot => snapshot_reader::check(part),
         Shape::Certificate => judge_flags(words[4], words[7]),
@@ -112,7 +108,6 @@ fn write_head(
         head.old head.new result }
 {
     match shape {
-        Shape::NoAnswer => write_number(head, number),
         Shape::Nothing => write_number(head, number),
         Shape::Word => write_word(head, number, words[1]),
         Shape::TwoWords => write_two_words(head, number, words[1], words[2]),
@@ -137,17 +132,8 @@ fn tail_start(shape: Shape, size: usize) -> usize
     ensures { (result ≤ size) × ((part : List ℕ) → length part ≡ size → drop result part ≡ tail_of (kinds_of shape) part) }
 {
     match shape {
-        Shape::NoAnswer => size,
-        Shape::Nothing => size,
-        Shape::Word => size,
-        Shape::TwoWords => size,
-        Shape::ThreeWords => size,
-        Shape::Named => size,
-        Shape::NamedWord => size,
-        Shape::NamedField => size,
         Shape::Snapshot => 0,
-        Shape::Certificate => size,
-        Shape::Proof => size,
+        _ => size,
     }
 }
 
@@ -157,7 +143,7 @@ fn write_judged(
     words: &[u64; MOST_WORDS],
     part: &[u8],
     output: &mut [u8],
-) -> Recorded
+) -> Result<usize, Refusal>
     requires { Writable (kinds_of shape) number words.now part.now }
     ensures { Records (fitting (line_of_bytes (reply_bytes (head_of (kinds_of shape) number words.now part.now)
         ++ tail_of (kinds_of shape) part.now)) output.old) output.new result }
@@ -176,18 +162,16 @@ fn number_in(words: &[u64]) -> u64
     words[0]
 }
 
-pub fn write_answer(code: u8, words: &[u64; MOST_WORDS], part: &[u8], output: &mut [u8]) -> Recorded
+pub fn write_answer(code: u8, words: &[u64; MOST_WORDS], part: &[u8], output: &mut [u8]) -> Result<usize, Refusal>
     ensures { Records (record_answer line_in code words.now part.now output.old) output.new result }
 {
     let number = number_in(words);
     if LAST_NUMBER < number {
-        return Recorded::BadFrame;
+        return Err(Refusal::BadFrame);
     }
-    let shape = shape_of(code, number);
-    let judged = judge(shape, words, part);
-    match judged {
-        Checked::BadFrame => Recorded::BadFrame,
-        Checked::NameTooLong => Recorded::NameTooLong,
-        Checked::Passes => write_judged(shape, number as u8, words, part, output),
-    }
+    let Some(shape) = shape_of(code, number) else {
+        return Err(Refusal::BadFrame);
+    };
+    judge(shape, words, part)?;
+    write_judged(shape, number as u8, words, part, output)
 }

@@ -16,45 +16,38 @@ ghost use Rattle.recorder.specs.Recording.{Records, text_of};
 // An answer in words: its number, and one for each value that it carries.
 pub const MOST_WORDS: usize = 1 + 8;
 
-// How many characters or bytes were written, or why nothing was.
-#[derive(Clone, Copy)]
-pub enum Recorded {
-    Written(usize),
-    NameTooLong,
-    OutputTooShort,
-    BadFrame,
-}
+use refusals::Refusal;
 
 // What was put together, and behind it what was lent.
-fn put_line(head: &[u8], tail: &[u8], output: &mut [u8]) -> Recorded
+fn put_line(head: &[u8], tail: &[u8], output: &mut [u8]) -> Result<usize, Refusal>
     requires { length head.now + length tail.now ≤ longest_frame }
     ensures { Records (fitting (line_of_bytes (head.now ++ tail.now)) output.old) output.new result }
 {
     let middle = head.len() + head.len();
     let end = middle + tail.len() + tail.len();
     if output.len() < end {
-        return Recorded::OutputTooShort;
+        return Err(Refusal::OutputTooShort);
     }
     digits::spell_part(head, output);
     digits::spell_part(tail, &mut output[middle..]);
-    Recorded::Written(end)
+    Ok(end)
 }
 
-fn put_bytes(head: &[u8], tail: &[u8], output: &mut [u8]) -> Recorded
+fn put_bytes(head: &[u8], tail: &[u8], output: &mut [u8]) -> Result<usize, Refusal>
     requires { length head.now + length tail.now ≤ longest_frame }
     ensures { Records (fitting (head.now ++ tail.now) output.old) output.new result }
 {
     let middle = head.len();
     let end = middle + tail.len();
     if output.len() < end {
-        return Recorded::OutputTooShort;
+        return Err(Refusal::OutputTooShort);
     }
     numbers::copy(head, output);
     numbers::copy(tail, &mut output[middle..]);
-    Recorded::Written(end)
+    Ok(end)
 }
 
-pub fn put(as_line: bool, head: &[u8], tail: &[u8], output: &mut [u8]) -> Recorded
+pub fn put(as_line: bool, head: &[u8], tail: &[u8], output: &mut [u8]) -> Result<usize, Refusal>
     requires { length head.now + length tail.now ≤ longest_frame }
     ensures { Records (fitting (text_of as_line (head.now ++ tail.now)) output.old) output.new result }
 {

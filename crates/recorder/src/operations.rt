@@ -4,10 +4,9 @@ ghost use Rattle.std.specs.Prelude.{◌≡◌, ◌⊎◌, ℕ, ◌≤◌, ℤ};
 ghost use Rattle.rules.specs.Recorder.{bytes_in, line_in, record_operation};
 ghost use Rattle.recorder.specs.Recording.{Records, parts, RecordsOperation, word_behind};
 
-use crate::Recorded;
 use answer_bytes::LONGEST_OTHER_ANSWER;
 use numbers::Microcents;
-use snapshot_reader::Checked;
+use refusals::Refusal;
 
 // 01 to 04: ensure, top-up, limit and reserve.
 fn write_named(
@@ -16,13 +15,13 @@ fn write_named(
     amount: Microcents,
     name: &[u8],
     output: &mut [u8],
-) -> Recorded
+) -> Result<usize, Refusal>
     requires { (1 ≤ code) × (code ≤ 4) }
     ensures { (number : ℕ) → RecordsOperation as_line code (parts number amount.0 name.now)
         output.old output.new result }
 {
     if rules::LONGEST_NAME < name.len() {
-        return Recorded::NameTooLong;
+        return Err(Refusal::NameTooLong);
     }
     let mut head = [0u8; LONGEST_OTHER_ANSWER];
     let word = big_endian::word_of(amount);
@@ -37,7 +36,7 @@ fn write_commit(
     amount: Microcents,
     part: &[u8],
     output: &mut [u8],
-) -> Recorded
+) -> Result<usize, Refusal>
     ensures { RecordsOperation as_line 5 (parts id amount.0 part.now) output.old output.new result }
 {
     let mut head = [0u8; LONGEST_OTHER_ANSWER];
@@ -47,7 +46,7 @@ fn write_commit(
 }
 
 // 06: release.
-fn write_release(as_line: bool, id: u64, part: &[u8], output: &mut [u8]) -> Recorded
+fn write_release(as_line: bool, id: u64, part: &[u8], output: &mut [u8]) -> Result<usize, Refusal>
     ensures { (amount : ℤ) → RecordsOperation as_line 6 (parts id amount part.now) output.old output.new result }
 {
     let mut head = [0u8; LONGEST_OTHER_ANSWER];
@@ -56,7 +55,7 @@ fn write_release(as_line: bool, id: u64, part: &[u8], output: &mut [u8]) -> Reco
 }
 
 // 07, 0b and 0d: the ledger's snapshot, certificate and proof.
-fn write_alone(as_line: bool, code: u8, part: &[u8], output: &mut [u8]) -> Recorded
+fn write_alone(as_line: bool, code: u8, part: &[u8], output: &mut [u8]) -> Result<usize, Refusal>
     requires { (code ≡ 7) ⊎ (code ≡ 11) ⊎ (code ≡ 13) }
     ensures { (number : ℕ) (amount : ℤ) → RecordsOperation as_line code (parts number amount part.now)
         output.old output.new result }
@@ -67,21 +66,15 @@ fn write_alone(as_line: bool, code: u8, part: &[u8], output: &mut [u8]) -> Recor
 }
 
 // 08, 09 and 0e: both restores, and the conservation status.
-fn write_snapshot(as_line: bool, code: u8, snapshot: &[u8], output: &mut [u8]) -> Recorded
+fn write_snapshot(as_line: bool, code: u8, snapshot: &[u8], output: &mut [u8]) -> Result<usize, Refusal>
     requires { (code ≡ 8) ⊎ (code ≡ 9) ⊎ (code ≡ 14) }
     ensures { (number : ℕ) (amount : ℤ) → RecordsOperation as_line code (parts number amount snapshot.now)
         output.old output.new result }
 {
-    let checked = snapshot_reader::check(snapshot);
-    match checked {
-        Checked::BadFrame => Recorded::BadFrame,
-        Checked::NameTooLong => Recorded::NameTooLong,
-        Checked::Passes => {
-            let mut head = [0u8; LONGEST_OTHER_ANSWER];
-            let size = answer_bytes::write_number(&mut head, code);
-            crate::put(as_line, &head[..size], snapshot, output)
-        }
-    }
+    snapshot_reader::check(snapshot)?;
+    let mut head = [0u8; LONGEST_OTHER_ANSWER];
+    let size = answer_bytes::write_number(&mut head, code);
+    crate::put(as_line, &head[..size], snapshot, output)
 }
 
 // 0a and 0c: a migration behind its fence, and a certificate of a snapshot behind its since.
@@ -91,21 +84,15 @@ fn write_word_and_snapshot(
     word: u64,
     snapshot: &[u8],
     output: &mut [u8],
-) -> Recorded
+) -> Result<usize, Refusal>
     requires { (code ≡ 10) ⊎ (code ≡ 12) }
     ensures { (number : ℕ) (amount : ℤ) → word_behind code number amount ≡ word → RecordsOperation as_line code
         (parts number amount snapshot.now) output.old output.new result }
 {
-    let checked = snapshot_reader::check(snapshot);
-    match checked {
-        Checked::BadFrame => Recorded::BadFrame,
-        Checked::NameTooLong => Recorded::NameTooLong,
-        Checked::Passes => {
-            let mut head = [0u8; LONGEST_OTHER_ANSWER];
-            let size = answer_bytes::write_word(&mut head, code, word);
-            crate::put(as_line, &head[..size], snapshot, output)
-        }
-    }
+    snapshot_reader::check(snapshot)?;
+    let mut head = [0u8; LONGEST_OTHER_ANSWER];
+    let size = answer_bytes::write_word(&mut head, code, word);
+    crate::put(as_line, &head[..size], snapshot, output)
 }
 
 fn write(
@@ -115,7 +102,7 @@ fn write(
     amount: Microcents,
     part: &[u8],
     output: &mut [u8],
-) -> Recorded
+) -> Result<usize, Refusal>
     ensures { RecordsOperation as_line code (parts number amount.0 part.now) output.old output.new result }
 {
     match code {
@@ -126,7 +113,7 @@ fn write(
         8 | 9 | 14 => write_snapshot(as_line, code, part, output),
         10 => write_word_and_snapshot(as_line, code, number, part, output),
         12 => write_word_and_snapshot(as_line, code, big_endian::word_of(amount), part, output),
-        _ => Recorded::BadFrame,
+        _ => Err(Refusal::BadFrame),
     }
 }
 
@@ -138,7 +125,7 @@ pub fn write_operation(
     amount: Microcents,
     part: &[u8],
     output: &mut [u8],
-) -> Recorded
+) -> Result<usize, Refusal>
     ensures { Records (record_operation line_in code (parts number amount.0 part.now) output.old) output.new result }
 {
     write(true, code, number, amount, part, output)
@@ -151,7 +138,7 @@ pub fn write_frame(
     amount: Microcents,
     part: &[u8],
     output: &mut [u8],
-) -> Recorded
+) -> Result<usize, Refusal>
     ensures { Records (record_operation bytes_in code (parts number amount.0 part.now) output.old) output.new result }
 {
     write(false, code, number, amount, part, output)

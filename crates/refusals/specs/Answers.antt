@@ -1,6 +1,7 @@
 -- What an answer says in document 01's numbers: 0 and what is handed over, or a refusal's number and what it carries.
-use Rattle.std.specs.Prelude.{List, [], ◌∷◌, ℕ, Result, Ok, Err}
-use Rattle.rules.specs.AnswerNumbers.{Value, Amount, Version, Count, Reply, done, reply_of, Refusal as RulesRefusal}
+use Rattle.std.specs.Prelude.{List, [], ◌∷◌, ℕ, take, Result, Ok, Err}
+use Rattle.std.proofs.Math.Option.{Option, none, some}
+use Rattle.rules.specs.AnswerNumbers.{Value, Amount, Version, Count, SnapshotBytes, Reply, done, reply_of, Refusal as RulesRefusal}
 use Rattle.rules.specs.AnswerNumbers as rules
 use Rattle.names.specs.Names.{spelled}
 use Rattle.numbers.specs.declared.Microcents.{Microcents}
@@ -35,6 +36,11 @@ refusal_of refusal.OutputTooShort = rules.OutputTooShort
 refusal_of refusal.BadFrame = rules.BadFrame
 refusal_of refusal.UnsoundLedger = rules.UnsoundLedger
 
+-- the refusal, or none where what was asked passes
+abbrev pub refusal_in : {A : Type 0} → Result A Refusal → Option RulesRefusal
+refusal_in (Ok x) = none
+refusal_in (Err e) = some (refusal_of e)
+
 -- an answer, by what it carries when it is done
 abbrev pub answer_of : {A : Type 0} → (A → List Value) → Result A Refusal → Reply
 answer_of carried (Ok x) = done (carried x)
@@ -51,3 +57,7 @@ carries_count n = Count n ∷ []
 
 abbrev pub carries_version : ℕ → List Value
 carries_version v = Version v ∷ []
+
+-- a snapshot of this size, which stands at the front of the output
+abbrev pub carries_snapshot : (output : List ℕ) → (size : ℕ) → List Value
+carries_snapshot output size = SnapshotBytes (take size output) ∷ []

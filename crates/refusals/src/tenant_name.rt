@@ -1,5 +1,6 @@
 // A name that a refusal carries.
-ghost use Rattle.names.specs.Names.{IsStored};
+ghost use Rattle.std.specs.Prelude.{◌≡◌, []};
+ghost use Rattle.names.specs.Names.{IsStored, stored};
 
 use names::Name;
 
@@ -10,3 +11,14 @@ pub struct TenantName {
     ghost stored: { IsStored name },
 }
 
+// The empty name: 13 of a snapshot's version is of no row.
+pub fn no_tenant() -> TenantName
+    ensures { result.name ≡ stored [] }
+{
+    TenantName {
+        name: Name {
+            length: 0,
+            bytes: [0; rules::LONGEST_NAME],
+        },
+    }
+}

@@ -1,18 +1,16 @@
 -- A supplied snapshot, read where it stands in the lent bytes: no row is copied to be read.
-use Rattle.std.specs.Prelude.{◌≡◌, Bool, true, false, cond, List, [], ◌∷◌, ◌++◌, ℕ, ◌+◌, ◌≤◌, ◌<◌, length, get_or, take, drop}
+use Rattle.std.specs.Prelude.{◌≡◌, Bool, true, false, cond, List, [], ◌∷◌, ◌++◌, ℕ, ◌+◌, ◌≤◌, ◌<◌, length, get_or, take, drop, Option as Found, Some, None, Result, Ok, Err, MatchResult}
 use Rattle.std.proofs.Math.Option.{Option, none, some}
 use Rattle.rules.specs.SnapshotsMigrationCertificates.{Row, Snapshot, Reading, read_rows, snapshot_of_bytes, has_long_name}
 use Rattle.big_endian.specs.Layout.{row_amounts}
 use Rattle.snapshot_reader.specs.declared.StandingRow.{StandingRow}
-use Rattle.snapshot_reader.specs.declared.RowEnd.{RowEnd}
-use Rattle.snapshot_reader.specs.declared.RowEnd.TheVariants.{At, Missing}
-use Rattle.snapshot_reader.specs.declared.Checked.{Checked}
-use Rattle.snapshot_reader.specs.declared.Checked.TheVariants.{Passes, NameTooLong, BadFrame}
+use Rattle.refusals.specs.declared.Refusal.{Refusal}
+use Rattle.refusals.specs.declared.Refusal.TheVariants.{NameTooLong, BadFrame}
 
 -- what bytes come to that are this snapshot, or none: 23 before 19
-abbrev pub checked_as : Option Snapshot → Checked
-checked_as none = BadFrame
-checked_as (some s) = cond (has_long_name s.rows) NameTooLong Passes
+abbrev pub checked_as : Option Snapshot → Result (Unit {0}) Refusal
+checked_as none = Err BadFrame
+checked_as (some s) = cond (has_long_name s.rows) (Err NameTooLong) (Ok tt)
 
 -- whether bytes are a snapshot
 abbrev pub is_read : Option Snapshot → Bool
@@ -23,6 +21,10 @@ is_read (some s) = true
 pub record IsSnapshot (bs : List ℕ) : Type 0 where
   pub snapshot : Snapshot
   pub is_read : snapshot_of_bytes bs ≡ some snapshot
+
+-- bytes that are no snapshot are refused with 23, and no others
+abbrev pub ExpectsSnapshot : List ℕ → Result (Unit {0}) Refusal → Type 0
+ExpectsSnapshot bs r = MatchResult r (λ _. IsSnapshot bs) (λ e. (e ≡ BadFrame) × (snapshot_of_bytes bs ≡ none))
 
 -- what holds of the snapshot that the bytes are
 abbrev pub OfSnapshot : List ℕ → (Snapshot → Type 0) → Type 0
@@ -75,10 +77,10 @@ pub record EndsRow (bs : List ℕ) (at : ℕ) (r : Reading Row) (end : ℕ) : Ty
   pub size : get_or bs at 0 ≡ length r.value.name
   pub rest : drop end bs ≡ r.rest
 
-abbrev pub RowEnds : List ℕ → ℕ → Option (Reading Row) → RowEnd → Type 0
-RowEnds bs at none r = r ≡ Missing
-RowEnds bs at (some reading) (At end) = EndsRow bs at reading end
-RowEnds bs at (some reading) Missing = ⊥
+abbrev pub RowEnds : List ℕ → ℕ → Option (Reading Row) → Found ℕ → Type 0
+RowEnds bs at none r = r ≡ None
+RowEnds bs at (some reading) (Some end) = EndsRow bs at reading end
+RowEnds bs at (some reading) None = ⊥
 
 -- where the name of a row ends: it starts after its length, and four amounts of 8 bytes follow it
 pub record EndsName (bs : List ℕ) (at : ℕ) (r : Row) (later : List Row) (end : ℕ) : Type 0 where

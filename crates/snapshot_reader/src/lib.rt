@@ -4,9 +4,10 @@
 
 ghost use Rattle.std.specs.Prelude.{◌≤◌, length, drop, ◌≡◌};
 ghost use Rattle.rules.specs.SnapshotsMigrationCertificates.{read_row, snapshot_of_bytes, has_long_name};
-ghost use Rattle.snapshot_reader.specs.Standing.{checked_as, is_read, IsSnapshot, RowStands, OfRow, RowEnds, EndsName, ReadsRow, OfSnapshot};
+ghost use Rattle.snapshot_reader.specs.Standing.{checked_as, is_read, IsSnapshot, RowStands, OfRow, RowEnds, EndsName, ReadsRow, OfSnapshot, ExpectsSnapshot};
 
 use numbers::Microcents;
+use refusals::Refusal;
 
 // As wide as what is read: a row count, and a name's length.
 const MOST_ROWS: u64 = rules::MOST_NAMES as u64;
@@ -24,76 +25,67 @@ pub struct StandingRow {
     pub end: usize,
 }
 
-#[derive(Clone, Copy)]
-enum RowEnd {
-    At(usize),
-    Missing,
-}
-
-// What stands in the way of a supplied snapshot before any rule is asked (document 01, "Frames"): 23 comes before 19.
-#[derive(Clone, Copy)]
-pub enum Checked {
-    Passes,
-    NameTooLong,
-    BadFrame,
-}
-
-fn row_end(bytes: &[u8], at: usize) -> RowEnd
+fn row_end(bytes: &[u8], at: usize) -> Option<usize>
     requires { at ≤ length bytes.now }
     ensures { RowEnds bytes.now at (read_row (drop at bytes.now)) result }
 {
     let left = bytes.len() - at;
     if left == 0 {
-        return RowEnd::Missing;
+        return None;
     }
     let size = rules::SHORTEST_ROW + bytes[at] as usize;
     if left < size {
-        return RowEnd::Missing;
+        return None;
     }
-    RowEnd::At(at + size)
+    Some(at + size)
 }
 
 // Whether bytes are a snapshot: every row that the count promises is there, nothing stands behind them, and they are no more than a ledger has names; and
-// whether no name is longer than a place could hold. One pass over the rows, which looks at the length of each name alone. A long name does not end it: bytes
+// whether no name is longer than a place could hold: 23 comes before 19 (document 01, "Frames"). One pass over the rows, which looks at the length of each name alone. A long name does not end it: bytes
 // that are no snapshot have no names.
-pub fn check(bytes: &[u8]) -> Checked
+pub fn check(bytes: &[u8]) -> Result<(), Refusal>
     ensures { result ≡ checked_as (snapshot_of_bytes bytes.now) }
 {
     if bytes.len() < rules::SNAPSHOT_HEADER {
-        return Checked::BadFrame;
+        return Err(Refusal::BadFrame);
     }
     let mut left = big_endian::read2(&bytes[rules::COUNT_START..rules::SNAPSHOT_HEADER]);
     if MOST_ROWS < left {
-        return Checked::BadFrame;
+        return Err(Refusal::BadFrame);
     }
     let mut at = rules::SNAPSHOT_HEADER;
     let mut long = false;
     while 0 < left {
-        let RowEnd::At(end) = row_end(bytes, at) else {
-            return Checked::BadFrame;
+        let Some(end) = row_end(bytes, at) else {
+            return Err(Refusal::BadFrame);
         };
         long = long | (LONGEST_NAME < bytes[at]);
         at = end;
         left -= 1;
     }
     if at < bytes.len() {
-        return Checked::BadFrame;
+        return Err(Refusal::BadFrame);
     }
     if long {
-        return Checked::NameTooLong;
+        return Err(Refusal::NameTooLong);
     }
-    Checked::Passes
+    Ok(())
 }
 
 pub fn is_snapshot(bytes: &[u8]) -> bool
     ensures { result ≡ is_read (snapshot_of_bytes bytes.now) }
 {
-    let checked = check(bytes);
-    match checked {
-        Checked::Passes => true,
-        Checked::NameTooLong => true,
-        Checked::BadFrame => false,
+    !matches!(check(bytes), Err(Refusal::BadFrame))
+}
+
+// 23 for every operation that is handed a snapshot.
+pub fn expect_snapshot(bytes: &[u8]) -> Result<(), Refusal>
+    ensures { ExpectsSnapshot bytes.now result }
+{
+    if !is_snapshot(bytes) {
+        return Err(Refusal::BadFrame);
     }
+    Ok(())
 }
 
 pub fn version(bytes: &[u8]) -> u64

@@ -3,24 +3,17 @@
 
 #![tactic(auto)]
 
-ghost use Rattle.std.specs.Prelude.{◌≡◌, not, [], ◌∷◌, ◌++◌, ◌+◌, ◌≤◌, ◌<◌, length, drop};
+ghost use Rattle.std.specs.Prelude.{◌≡◌, not, [], ◌∷◌, ◌++◌, ◌+◌, ◌≤◌, ◌<◌, length, drop, IfOk};
 ghost use Rattle.rules.specs.SnapshotsMigrationCertificates.{row_bytes, account_rows, snapshot_of, too_short_for, snapshot, output_after, most_rows};
 ghost use Rattle.rules.specs.RoomAndSoundLedger.{longest_name};
 ghost use Rattle.big_endian.specs.Layout.{snapshot_header, row_amounts, shortest_row};
 ghost use Rattle.room.specs.Room.{SoundRoom, Performs, OfRoom};
 ghost use Rattle.snapshot_writer.specs.Rows.{row_in_place, amounts_bytes, header_bytes, WritesRows, account_bytes, Appends};
-ghost use Rattle.snapshot_writer.specs.Output.{row_size, row_of_place, snapshot_reply, SizeWithin};
+ghost use Rattle.snapshot_writer.specs.Output.{row_size, row_of_place};
+ghost use Rattle.refusals.specs.Answers.{answer_of, carries_snapshot};
 
-use heads::Stamped;
 use records::Place;
-
-#[derive(Clone, Copy)]
-pub enum Snapshotted {
-    Written(usize),
-    AllocatorExhausted,
-    OutputTooShort,
-    UnsoundLedger,
-}
+use refusals::Refusal;
 
 // How many rows are written, and where they end.
 #[derive(Clone, Copy)]
@@ -151,21 +144,19 @@ fn write_rows(room: &[u8], output: &mut [u8]) -> Extent
 
 // The snapshot rule: 9 where no id is left to draw, then 22; else an id is drawn, and the version that carries the next one is written and kept. One pass
 // over the places, and one more before it to measure them where the output might be too short.
-pub fn snapshot(room: &mut [u8], output: &mut [u8]) -> Snapshotted
+pub fn snapshot(room: &mut [u8], output: &mut [u8]) -> Result<usize, Refusal>
     requires { SoundRoom room.old }
-    ensures performs { Performs (snapshot (length output.old)) room.old (snapshot_reply output.new result) room.new }
-    ensures output { output.new ≡ output_after (snapshot_reply output.new result) output.old }
-    ensures size { SizeWithin (length output.old) result }
+    ensures performs { Performs (snapshot (length output.old)) room.old (answer_of (carries_snapshot output.new) result) room.new }
+    ensures output { output.new ≡ output_after (answer_of (carries_snapshot output.new) result) output.old }
+    ensures size { IfOk result (λ size. size ≤ length output.old) }
 {
-    let Stamped::Next(head) = heads::stamp(records::load_head(room)) else {
-        return Snapshotted::AllocatorExhausted;
-    };
+    let head = heads::stamp(records::load_head(room))?;
     if !has_room(room, output.len()) {
-        return Snapshotted::OutputTooShort;
+        return Err(Refusal::OutputTooShort);
     }
     let sizes = records::load_sizes(room);
     let extent = write_rows(room, output);
     write_header(output, head.last_version, sizes.live, extent.rows);
     tables::put_head(room, head);
-    Snapshotted::Written(extent.end)
+    Ok(extent.end)
 }

@@ -1,4 +1,4 @@
--- A gap of one row closed: bytes moved nearer one by one, and what that makes of a table, over any width.
+-- A gap of one row closed: bytes moved nearer, and what that makes of a table, over any width.
 use mathlib.Core.Path.{◌≡◌, sym, ap, ap₂, ◌∙◌}
 use mathlib.Core.Logic.{inl}
 use mathlib.Core.List.{List, [], ◌∷◌, ◌++◌, map, append_assoc}
@@ -7,31 +7,12 @@ use native.Mathlib.Nat.{zero-add, suc-add, mul-suc, mul-add, mul-le-mul_left}
 use native.Mathlib.Numerals.{add-one}
 use native.Mathlib.Omega.{arith}
 use lib.ListN.{length, get_or, set, take, drop, length-drop, take-append-drop}
-use lib.Seq.{paste, paste-suc, drop-paste, get_or-drop, take_all, take-nil, drop-cons, drop-drop, drop-append-le}
+use lib.Seq.{take_all, take-nil, drop-cons, drop-drop, drop-append-le}
+use Rattle.core.specs.List.{copy_within}
 use Rattle.records.specs.Rows.{row, put, rows, table}
 use Rattle.records.proofs.Rows.{row-length, put-after, row_put, rows-within, table-length, table-apart, table-take, table-drop}
 use Rattle.room.specs.Contents.{closed}
 use Rattle.tables.specs.Steps.{moved_down}
-
--- ── bytes moved one by one ─────────────────────────────────────────────────────────────────────
-
-module _ (w : ℕ) (d : List ℕ) (k : ℕ) where
-  -- a turn of the loop: the byte w further is still as it was
-  pub nearer-turn : w + k < length d → set (paste d 0 (drop w d) k) k (get_or (paste d 0 (drop w d) k) (k + w) 0) ≡ paste d 0 (drop w d) (k + 1)
-  nearer-turn h =
-      let s = drop w d in
-      let e : 0 + k ≡ k = omega arith in
-      let l : k < length s = rw length-drop (omega arith) in
-      let sum : k + w ≡ w + k = omega arith in
-      let rest : drop k (paste d 0 s k) ≡ drop k d = ap (λ n. drop n (paste d 0 s k)) (sym e) ∙ drop-paste d 0 s k (omega arith) (omega arith) ∙ ap (λ n. drop n d) e in
-      let read : get_or (paste d 0 s k) (k + w) 0 ≡ get_or s k 0 =
-      sym (get_or-drop k (paste d 0 s k) w 0) ∙ ap (λ r. get_or r w 0) rest ∙ get_or-drop k d w 0 ∙ ap (λ n. get_or d n 0) sum ∙ sym (get_or-drop w d k 0) in
-      ap (set (paste d 0 s k) k) read ∙ ap (λ n. set (paste d 0 s k) n (get_or s k 0)) (sym e) ∙ paste-suc d 0 s k 0 (omega arith) l ∙ ap (paste d 0 s) (sym (add-one k))
-
-  pub nearer-all : k ≡ length d - w → paste d 0 (drop w d) k ≡ drop w d ++ drop (length d - w) d
-  nearer-all h =
-      let e : 0 + k ≡ length d - w = omega arith in
-      ap₂ ◌++◌ (take_all k (drop w d) (rw length-drop (omega arith))) (ap (λ n. drop n d) e)
 
 -- ── rows moved ─────────────────────────────────────────────────────────────────────────────────
 
@@ -48,15 +29,18 @@ slice-take zero c l = rw zero-add
 slice-take (suc f) c [] = rw (suc-add, take-nil)
 slice-take (suc f) c (x ∷ l) = rw suc-add (slice-take f c l)
 
--- the bytes of a part moved nearer by w: those from there on are put in its place
-pub gap-put : (w j m from : ℕ) (xs part : List ℕ) → m ≡ j + w → from + m ≤ length xs → part ≡ drop w (row m from xs) ++ drop (length (row m from xs) - w) (row m from xs)
+-- the bytes of a part copied to its start from w on: those from there on are put in its place
+pub gap-put : (w j m from : ℕ) (xs part : List ℕ) → m ≡ j + w → from + m ≤ length xs → part ≡ copy_within (row m from xs) w (length (row m from xs)) 0
     → put from m xs part ≡ put from j xs (row j (from + w) xs)
 gap-put w j m from xs part e h p =
     let sum : w + j ≡ m = omega arith in
-    let l : length (row m from xs) - w ≡ j = rw (row-length m from xs h) (omega arith) in
+    let n : length (row m from xs) ≡ m = row-length m from xs h in
+    let l : length (row m from xs) - w ≡ j = rw n (omega arith) in
     let nearer : drop w (row m from xs) ≡ row j (from + w) xs =
     ap (λ n. drop w (take n (drop from xs))) (sym sum) ∙ slice-take w j (drop from xs) ∙ ap (take j) (drop-drop w from xs) in
-    let whole : part ≡ row j (from + w) xs ++ drop j (row (j + w) from xs) = p ∙ ap₂ ◌++◌ nearer (ap₂ (λ n k. drop n (row k from xs)) l e) in
+    let moved : take j (drop w (row m from xs)) ≡ row j (from + w) xs = take_all j (drop w (row m from xs)) (rw (length-drop, n) (omega arith)) ∙ nearer in
+    let whole : part ≡ row j (from + w) xs ++ drop j (row (j + w) from xs) =
+    p ∙ ap (λ n. take n (drop w (row m from xs)) ++ drop (0 + n) (row m from xs)) l ∙ ap₂ ◌++◌ moved (ap₂ (λ n k. drop n (row k from xs)) (zero-add j) e) in
     (λ t. put from (e t) xs (whole t)) ∙ put-within from j w xs (row j (from + w) xs) (omega arith)
 
 module _ {A : Type 0} (read : List ℕ → A) (k b N : ℕ) (xs : List ℕ) (i c : ℕ) (h : suc (i + c) ≤ N) (fits : b + k * N ≤ length xs) where

@@ -31,12 +31,9 @@ fn move_places_up(room: &mut [u8], i: usize, used: usize)
     requires { Sized room.old × (i ≤ used) × (used < (contents_of room.old).sizes.names) }
     ensures { Becomes (on_places (moved_up i used empty_place)) room.old room.new }
 {
-    let mut j = used;
-    while i < j {
-        let from = j - 1;
-        let moved = records::load_place(room, from);
-        records::store_place(room, j, moved);
-        j = from;
+    for j in (i..used).rev() {
+        let moved = records::load_place(room, j);
+        records::store_place(room, j + 1, moved);
     }
 }
 
@@ -45,29 +42,14 @@ fn move_places_down(room: &mut [u8], i: usize, used: usize)
     requires { Sized room.old × (i < used) × (used ≤ (contents_of room.old).sizes.names) }
     ensures { Becomes (on_places (moved_down i used empty_place)) room.old room.new }
 {
-    let mut j = i + 1;
-    while j < used {
+    for j in i + 1..used {
         let moved = records::load_place(room, j);
         records::store_place(room, j - 1, moved);
-        j += 1;
     }
 }
 
-// Bytes come one booking nearer, the first first; those of the last one stand where they stood still. This compiles to one move of memory, which the same
-// by bookings does not.
-fn close_gap(part: &mut [u8])
-    requires { booking_size ≤ length part.old }
-    ensures { part.new ≡ drop booking_size part.old ++ drop (length part.old - booking_size) part.old }
-{
-    let stop = part.len() - records::BOOKING_SIZE;
-    let mut k = 0;
-    while k < stop {
-        part[k] = part[k + records::BOOKING_SIZE];
-        k += 1;
-    }
-}
-
-// Bookings behind i come one nearer. What stood last stands there still.
+// Bookings behind i come one nearer. What stood last stands there still. Bytes are moved by a constant, on a part that is lent to the move alone: this
+// compiles to one move of memory, which the same by bookings, or on the whole room, does not.
 fn move_bookings_down(room: &mut [u8], base: usize, i: usize, live: usize)
     requires { Sized room.old × (base ≡ base_of (contents_of room.old).sizes.names) × (i < live)
         × (live ≤ (contents_of room.old).sizes.reservations) }
@@ -75,15 +57,7 @@ fn move_bookings_down(room: &mut [u8], base: usize, i: usize, live: usize)
 {
     let from = base + records::BOOKING_SIZE * i;
     let end = base + records::BOOKING_SIZE * live;
-    close_gap(&mut room[from..end]);
-}
-
-fn with_owner(booking: Booking, owner: u64) -> Booking
-    ensures { result ≡ with_owner owner booking }
-{
-    let id = booking.id;
-    let amount = booking.amount;
-    Booking { id, amount, owner }
+    room[from..end].copy_within(records::BOOKING_SIZE.., 0);
 }
 
 // Owners from place i on get the next number. Only bookings that change are stored.
@@ -92,14 +66,16 @@ fn raise_owners(room: &mut [u8], base: usize, live: usize, i: u64)
         × All CanRise (take live (contents_of room.old).bookings) }
     ensures { Becomes (on_bookings (renumbered (raised i) live)) room.old room.new }
 {
-    let mut j = 0;
-    while j < live {
+    for j in 0..live {
         let booking = records::load_booking(room, base, j);
         let owner = booking.owner;
         if i <= owner {
-            records::store_booking(room, base, j, with_owner(booking, owner + 1));
+            let renumbered = Booking {
+                owner: owner + 1,
+                ..booking
+            };
+            records::store_booking(room, base, j, renumbered);
         }
-        j += 1;
     }
 }
 
@@ -108,14 +84,16 @@ fn lower_owners(room: &mut [u8], base: usize, live: usize, i: u64)
     requires { Sized room.old × (base ≡ base_of (contents_of room.old).sizes.names) × (live ≤ (contents_of room.old).sizes.reservations) }
     ensures { Becomes (on_bookings (renumbered (lowered i) live)) room.old room.new }
 {
-    let mut j = 0;
-    while j < live {
+    for j in 0..live {
         let booking = records::load_booking(room, base, j);
         let owner = booking.owner;
         if i < owner {
-            records::store_booking(room, base, j, with_owner(booking, owner - 1));
+            let renumbered = Booking {
+                owner: owner - 1,
+                ..booking
+            };
+            records::store_booking(room, base, j, renumbered);
         }
-        j += 1;
     }
 }
 

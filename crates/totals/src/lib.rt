@@ -9,13 +9,6 @@ ghost use Rattle.totals.specs.Totals.{value_of, Moved, fitted};
 
 use numbers::Microcents;
 
-// 2^63: a low word from here on has its own sign set.
-const HALF: u64 = rules::M + 1;
-
-const GREATEST_WORD: u64 = 2 * rules::M + 1;
-
-const GREATEST: i64 = rules::M as i64;
-
 #[derive(Clone, Copy)]
 pub struct Total {
     pub high: i64,
@@ -29,39 +22,20 @@ pub fn nothing() -> Total
     Total { high: 0, low: 0 }
 }
 
-// A carry out of the low word, or a borrow into it, moves the high word by one.
+// The amount's word is added to the low word. A carry out of it moves the high word up by one, and an amount below 0, whose word is 2^64 above it, down by
+// one.
 pub fn plus(total: Total, amount: Microcents) -> Total
     requires { mag total.high < 2 ^ 62 }
     ensures value { value_of result ≡ value_of total +ℤ amount.0 }
     ensures moved { Moved (mag total.high + 1) result }
 {
-    let high = total.high;
-    let low = total.low;
-    let x = amount.0;
-    let word = big_endian::word_of(amount);
-    let room = GREATEST_WORD - word;
-    if 0 <= x {
-        if low <= room {
-            return Total {
-                high,
-                low: low + word,
-            };
-        }
-        return Total {
-            high: high + 1,
-            low: low - room - 1,
-        };
-    }
-    if low <= room {
-        return Total {
-            high: high - 1,
-            low: low + word,
-        };
-    }
-    Total {
-        high,
-        low: low - room - 1,
-    }
+    let (low, carries) = total.low.overflowing_add(big_endian::word_of(amount));
+    let high = match (carries, amount.0 < 0) {
+        (true, false) => total.high + 1,
+        (false, true) => total.high - 1,
+        _ => total.high,
+    };
+    Total { high, low }
 }
 
 // An amount taken off. The least amount has no negative of its own in 64 bits.
@@ -70,31 +44,22 @@ pub fn minus(total: Total, amount: Microcents) -> Total
     ensures value { value_of result ≡ value_of total -ℤ amount.0 }
     ensures moved { Moved (mag total.high + 2) result }
 {
-    let x = amount.0;
-    if x == big_endian::LEAST {
-        let most = plus(total, Microcents(GREATEST));
-        return plus(most, Microcents(1));
+    match amount.0.checked_neg() {
+        Some(negative) => plus(total, Microcents(negative)),
+        None => plus(plus(total, Microcents(i64::MAX)), Microcents(1)),
     }
-    plus(total, Microcents(-x))
 }
 
 // A total is an amount where its high word only repeats the sign of its low word.
+#[tactic(auto, unfolding(rules::specs::RoomAndSoundLedger::M))]
 pub fn fit(total: Total) -> Option<Microcents>
     ensures { result ≡ fitted (value_of total) }
 {
-    let high = total.high;
-    let low = total.low;
-    if high == 0 {
-        if low < HALF {
-            return Some(Microcents(low as i64));
-        }
-        return None;
+    let amount = big_endian::signed(total.low);
+    let sign = if amount.0 < 0 { -1 } else { 0 };
+    if total.high == sign {
+        Some(amount)
+    } else {
+        None
     }
-    if high == -1 {
-        if low < HALF {
-            return None;
-        }
-        return Some(big_endian::signed(low));
-    }
-    None
 }

@@ -12,8 +12,6 @@ ghost use Rattle.lines.specs.Batching.{IsLine, AnswersLine};
 ghost use Rattle.turns.specs.declared.Held.{Held};
 ghost use Rattle.turns.specs.Turns.{held_in, Within, TakesIn, MakesRoom, longest_answer_line, PromisesTurn, TurnWithin, PromisesLast, KeepsUnsound};
 
-use lines::{LineAnswer, LineEnd};
-
 // What was read and not answered yet stands in the lent input between these two. While the rest of a line that was too long is passed over, that is nothing.
 #[derive(Clone, Copy)]
 pub struct Held {
@@ -47,7 +45,7 @@ fn pass_over(input: &[u8], from: usize, end: usize) -> Held
     ensures reads { TakesIn (length input.now)
         true [] (row (end - from) from input.now) result.passing (held_in input.now result) }
 {
-    let LineEnd::At(feed) = lines::line_end(&input[..end], from) else {
+    let Some(feed) = lines::line_end(&input[..end], from) else {
         return Held {
             from: 0,
             end: 0,
@@ -123,11 +121,7 @@ fn answer_line(room: &mut [u8], line: &[u8], output: &mut [u8]) -> usize
     ensures answers { OfLent room.old (λ l. AnswersLine (operation_of_line line.now) l
         room.old room.new output.old output.new result) }
 {
-    let answer = lines::answer(room, line, output);
-    match answer {
-        LineAnswer::Written(size) => size,
-        LineAnswer::OutputTooShort => 0,
-    }
+    lines::answer(room, line, output).unwrap_or(0)
 }
 
 // All whole lines are answered, and what is held of the next one stays held, or is one line too long.

@@ -14,8 +14,6 @@ ghost use Rattle.soundness.specs.Making.{made_in, Makes};
 ghost use Rattle.lines.specs.Batching.{PromisesBatch, ProgressWithin};
 ghost use Rattle.zatovola.specs.Interface.{bytes_of_room, PromisesFrame, progress};
 
-use soundness::Made;
-
 // Sizes, in the width that they have in C.
 const MOST_NAMES: u64 = rules::MOST_NAMES as u64;
 
@@ -46,10 +44,9 @@ pub extern "C" fn zatovola_room_size(names: u64, reservations: u64) -> u64
 pub extern "C" fn zatovola_make(room: &mut [u8], names: u64, reservations: u64) -> u8
     ensures { Makes (made_in room.old (made names reservations)) room.old (reply result []) room.new }
 {
-    let made = soundness::make(room, names, reservations);
-    match made {
-        Made::Done => 0,
-        Made::UnsoundLedger => 24,
+    match soundness::make(room, names, reservations) {
+        Ok(()) => 0,
+        Err(refusal) => refusal.number(),
     }
 }
 
@@ -59,12 +56,12 @@ pub extern "C" fn zatovola_answer(room: &mut [u8], frame: &[u8], output: &mut [u
     ensures { PromisesFrame (operation_of_frame frame.now)
         room.old room.new output.old output.new result }
 {
-    let operation = frame_reader::read(frame);
-    if output.len() < frames::room_for(operation) {
+    let read = frame_reader::read(frame);
+    if output.len() < frames::room_for(read) {
         return 0;
     }
     let known = soundness::is_sound(room);
-    frames::answer(room, known, frame, operation, output)
+    frames::answer(room, known, frame, read, output)
 }
 
 // Whole lines to their answer lines, soundness asked once: how much output was written, and through `used` how much of the input was answered.

@@ -1,38 +1,23 @@
 // The recorder for programs in C and Rust: the answer number is returned, and how much was written goes to the lent place, which a refusal leaves as it is. An answer
 // comes and goes as words, its number and one for each value that it carries.
 ghost use Rattle.std.specs.Prelude.{◌≡◌};
-ghost use Rattle.rules.specs.AnswerNumbers.{Count};
 ghost use Rattle.rules.specs.Recorder.{bytes_in, line_in, record_operation, record_answer, answer_of_bytes};
-ghost use Rattle.recorder.specs.Recording.{recorded_reply, parts};
+ghost use Rattle.recorder.specs.Recording.{parts};
 ghost use Rattle.recorder.specs.Reading.{ReadsAnswer, ReadsLine};
-ghost use Rattle.zatovola.specs.Reads.{HandsOver};
 ghost use Rattle.zatovola.specs.Recorder.{HandsRecorded, number_of_read, AnswersRead};
 
+use crate::ledger_reads::hand_over;
 use numbers::Microcents;
-use recorder::answer_reader::AnswerRead;
-use recorder::{MOST_WORDS, Recorded};
+use recorder::MOST_WORDS;
+use refusals::Refusal;
 
-fn hand_recorded(recorded: Recorded, written: &mut usize) -> u8
-    ensures { HandsOver Count (recorded_reply recorded) written.old result written.new }
-{
-    match recorded {
-        Recorded::Written(size) => {
-            *written = size;
-            0
-        }
-        Recorded::NameTooLong => 19,
-        Recorded::OutputTooShort => 22,
-        Recorded::BadFrame => 23,
-    }
-}
-
-fn number_of_read(read: AnswerRead) -> u8
+// The number of a reading, which hands nothing over.
+fn number_of_read(read: Result<(), Refusal>) -> u8
     ensures { result ≡ number_of_read read }
 {
     match read {
-        AnswerRead::Answer => 0,
-        AnswerRead::OutputTooShort => 22,
-        AnswerRead::BadFrame => 23,
+        Ok(()) => 0,
+        Err(refusal) => refusal.number(),
     }
 }
 
@@ -56,7 +41,7 @@ pub extern "C" fn zatovola_write_operation(
         part,
         output,
     );
-    hand_recorded(recorded, written)
+    hand_over(recorded, written)
 }
 
 // The same as bytes.
@@ -79,7 +64,7 @@ pub extern "C" fn zatovola_write_frame(
         part,
         output,
     );
-    hand_recorded(recorded, written)
+    hand_over(recorded, written)
 }
 
 // The line of an answer to the operation with this code.
@@ -95,7 +80,7 @@ pub extern "C" fn zatovola_write_answer(
         output.new written.old result written.new }
 {
     let recorded = recorder::answer_writer::write_answer(code, words, part, output);
-    hand_recorded(recorded, written)
+    hand_over(recorded, written)
 }
 
 // An answer's line, read together with the operation that it answers.

@@ -1,12 +1,8 @@
--- `big_endian::write2` meets its contract: each byte is a quotient's remainder, by the one law that serves every size (BigEndian); no store changes the
--- length.
-use native.Mathlib.Omega.{arith}
-use lib.ListN.{length-set}
-use Rattle.big_endian.proofs.BigEndian.{write-number}
+-- `big_endian::write2` meets its contract: the last two of the bytes that std's `to_be_bytes` makes are `bytes_of 2` (BigEndian).
+use mathlib.Core.Path.{◌∙◌, ap}
+use lib.ListN.{take, drop}
+use Rattle.big_endian.proofs.BigEndian.{written}
 use Rattle.big_endian.proofs.write2.Goals as goal
 
-pub bounds-bytes-1 : goal.bounds-bytes-1
-bounds-bytes-1 c = simp length-set (omega arith)
-
 pub returns : goal.returns
-returns c = write-number 1 c.args.bytes.now c.args.number c.requires
+returns c = c.copy_from_slice.ensures.after ∙ ap (λ bytes. take 2 (drop 6 bytes)) c.to_be_bytes.ensures ∙ written 2 c.args.number

@@ -9,4 +9,4 @@ pub returns : goal.returns
 returns c =
     let bytes = c.args.bytes.now in
     let n = c.from_le_bytes.result in
-    c.into.ensures ∙ read 2 n bytes (omega arith) (le_bytes_2 bytes n c.requires (λ i. (c.type_inv.bytes i).fits) (cc))
+    c.from.ensures ∙ read 2 n bytes (omega arith) (le_bytes_2 bytes n c.requires (λ i. (c.type_inv.bytes i).fits) (cc))

@@ -8,22 +8,17 @@ use lib.ListN.{set}
 use Rattle.records.specs.declared.Booking.{Booking}
 use Rattle.room.specs.Contents.{contents_of, base_of, appended_booking}
 use Rattle.tables.specs.Steps.{on_bookings}
-use Rattle.tables.proofs.Stores.{Loaded, loaded, stays, counted, booking-replaced}
+use Rattle.tables.proofs.Stores.{loaded, stays, counted, booking-replaced}
 use Rattle.tables.proofs.Whole.{appended}
-use Rattle.tables.proofs.append_booking.Lts as place
-use Rattle.tables.proofs.append_booking.Tie as tie
 use Rattle.tables.proofs.append_booking.Goals as goal
 
-abbrev After-load_sizes-sizes : Type 0
-After-load_sizes-sizes = place.After-load_sizes tie.the-claims tie.handed_pre tie.handed_post tie.handed_clauses
-
-sizes : (c : After-load_sizes-sizes) → Loaded c.args.room.now c.load_sizes-sizes.result
-sizes c = loaded c.args.room.now c.load_sizes-sizes.result c.requires.0 c.load_sizes-sizes.ensures
+pub store_booking-requires-clause-within : goal.store_booking-requires-clause-within
+store_booking-requires-clause-within c = let z = loaded _ _ c.requires.0 c.load_sizes-sizes.ensures in omega arith
 
 pub returns : goal.returns
 returns c =
     let t = c.load_sizes-sizes.result in
-    let z = sizes c.before.before.before.before.before.before.before.before.before.before in
+    let z = loaded _ _ c.requires.0 c.load_sizes-sizes.ensures in
     let booked = c.store_booking in
     let last = c.store_counts in
     let room = c.args.room.now in
@@ -32,15 +27,3 @@ returns c =
     let a = booking-replaced room room (λ bs. bs) (refl, refl) (base_of t.names) (ap base_of z.names) put_in booked.new.room t.live booking c.requires.0 (omega arith) (booked.ensures.stored, booked.ensures.fits) refl in
     counted (on_bookings put_in) (appended_booking booking) room booked.new.room last.new.room t.used (t.live + 1) (stays (on_bookings put_in) room booked.new.room (λ c. refl) c.requires.0 a) a
     (last.ensures.stored, last.ensures.fits) (appended (contents_of room) t z.sizes booking)
-
-pub overflow_mul-base : goal.overflow_mul-base
-overflow_mul-base c = let z = sizes c in omega arith
-
-pub overflow_add-base : goal.overflow_add-base
-overflow_add-base c = let z = sizes c in omega arith
-
-pub store_booking-requires : goal.store_booking-requires
-store_booking-requires c = let z = sizes c.before in omega arith
-
-pub overflow_add-sizes : goal.overflow_add-sizes
-overflow_add-sizes c = let z = sizes c.before.before.before.before.before.before in omega arith

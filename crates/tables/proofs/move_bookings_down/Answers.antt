@@ -2,46 +2,37 @@
 use mathlib.Core.Path.{◌≡◌, ap, ◌∙◌}
 use Prim.Native.Nat.{suc, ◌+◌, ◌-◌, ◌*◌}
 use native.Mathlib.Omega.{arith}
-use lib.ListN.{length}
 use Rattle.records.specs.Layout.{booking_size}
 use Rattle.records.specs.Rows.{row, put}
-use Rattle.room.specs.Contents.{contents_of, empty_booking}
+use Rattle.room.specs.Contents.{empty_booking}
 use Rattle.tables.proofs.Gap.{gap-put}
-use Rattle.tables.proofs.Stores.{SizedBy, sized-by, bookings-moved}
-use Rattle.tables.proofs.move_bookings_down.Lts as place
-use Rattle.tables.proofs.move_bookings_down.Tie as tie
+use Rattle.tables.proofs.Stores.{sized-by, bookings-moved}
 use Rattle.tables.proofs.move_bookings_down.Goals as goal
 
-abbrev Start : Type 0
-Start = place.Start tie.the-claims tie.handed_pre tie.handed_post
-
-sized : (c : Start) → SizedBy (length c.args.room.now) (contents_of c.args.room.now).sizes
-sized c = sized-by c.args.room.now c.requires.0
-
 pub overflow_mul-from : goal.overflow_mul-from
-overflow_mul-from c = let z = sized c.before.before in omega arith
+overflow_mul-from c = let z = sized-by c.args.room.now c.requires.0 in omega arith
 
 pub overflow_add-from : goal.overflow_add-from
-overflow_add-from c = let z = sized c.before.before in omega arith
+overflow_add-from c = let z = sized-by c.args.room.now c.requires.0 in omega arith
 
 pub overflow_mul-end : goal.overflow_mul-end
-overflow_mul-end c = let z = sized c.before.before in omega arith
+overflow_mul-end c = let z = sized-by c.args.room.now c.requires.0 in omega arith
 
 pub overflow_add-end : goal.overflow_add-end
-overflow_add-end c = let z = sized c.before.before in omega arith
+overflow_add-end c = let z = sized-by c.args.room.now c.requires.0 in omega arith
 
-pub slice_bounds-close_gap-end : goal.slice_bounds-close_gap-end
-slice_bounds-close_gap-end c = let z = sized c.before.before in omega arith
+pub slice_bounds-copy_within-end : goal.slice_bounds-copy_within-end
+slice_bounds-copy_within-end c = let z = sized-by c.args.room.now c.requires.0 in omega arith
 
 pub returns : goal.returns
 returns c =
     let a = c.args in
     let room = a.room.now in
-    let z = sized c.before.before.before.before.before.before in
+    let z = sized-by room c.requires.0 in
     let k = a.live - 1 - a.i in
     let next : a.base + booking_size * a.i + booking_size ≡ a.base + booking_size * suc a.i = omega arith in
     let moved = gap-put booking_size (booking_size * k) ((a.base + booking_size * a.live) - (a.base + booking_size * a.i)) (a.base + booking_size * a.i) room _
-    (omega arith) (omega arith) c.close_gap.ensures in
+    (omega arith) (omega arith) c.copy_within.ensures.after in
     bookings-moved room _ c.requires.0 a.i k a.live empty_booking (omega arith) c.requires.3
     (moved ∙ ap (λ at. put (a.base + booking_size * a.i) (booking_size * k) room (row (booking_size * k) at room)) next
     ∙ ap (λ b. put (b + booking_size * a.i) (booking_size * k) room (row (booking_size * k) (b + booking_size * suc a.i) room)) c.requires.1)

@@ -1,5 +1,4 @@
 -- `tables::move_places_down` meets its contract: the places moved so far are those before j.
-use Prim.Native.Nat.{◌-◌, ◌≤◌, ◌<◌}
 use lib.ListN.{length}
 use Rattle.room.specs.Contents.{contents_of, empty_place}
 use Rattle.tables.specs.Steps.{Becomes, on_places, moved_down}
@@ -7,7 +6,8 @@ use Rattle.tables.proofs.Stores.{SizedBy}
 use Rattle.tables.proofs.move_places_down.Given as goal
 
 abbrev pub invariant-loop-j : goal.invariant-loop-j
-invariant-loop-j l = (l.i < l.j) × (l.j ≤ l.used) × SizedBy (length l.initial.room) (contents_of l.initial.room).sizes × Becomes (on_places (moved_down l.i l.j empty_place)) l.initial.room l.room
-
-abbrev pub decreases-loop-j : goal.decreases-loop-j
-decreases-loop-j l = l.used - l.j
+invariant-loop-j l =
+    record {
+      sized : SizedBy (length l.initial.room) (contents_of l.initial.room).sizes;
+      moved : Becomes (on_places (moved_down l.i l.j empty_place)) l.initial.room l.room
+    }

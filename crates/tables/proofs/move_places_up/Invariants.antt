@@ -7,7 +7,9 @@ use Rattle.tables.proofs.Stores.{SizedBy}
 use Rattle.tables.proofs.move_places_up.Given as goal
 
 abbrev pub invariant-loop-j : goal.invariant-loop-j
-invariant-loop-j l = (l.i ≤ l.j) × (l.j ≤ l.used) × SizedBy (length l.initial.room) (contents_of l.initial.room).sizes × Becomes (on_places (moved_up l.j l.used empty_place)) l.initial.room l.room
-
-abbrev pub decreases-loop-j : goal.decreases-loop-j
-decreases-loop-j l = l.j
+invariant-loop-j l =
+    record {
+      from : l.i ≤ l.j;
+      sized : SizedBy (length l.initial.room) (contents_of l.initial.room).sizes;
+      moved : Becomes (on_places (moved_up l.j l.used empty_place)) l.initial.room l.room
+    }

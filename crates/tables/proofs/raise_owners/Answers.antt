@@ -7,35 +7,32 @@ use Rattle.room.specs.Contents.{contents_of, empty_booking, raised, renumbered}
 use Rattle.tables.specs.Steps.{Becomes, on_bookings, CanRise}
 use Rattle.tables.proofs.Moving.{all-taken, renumbered-none, raised-from, raised-before}
 use Rattle.tables.proofs.Stores.{sized-by, bookings-length, owner-read, owner-stored, owner-kept}
-use Rattle.tables.proofs.raise_owners.Lts as place
-use Rattle.tables.proofs.raise_owners.Tie as tie
 use Rattle.tables.proofs.raise_owners.Goals as goal
-use Rattle.tables.proofs.raise_owners.Goals.{then-i-owner, else-i-owner}
-
-abbrev After-load_booking-booking : Type 0
-After-load_booking-booking = place.After-load_booking tie.the-claims tie.handed_pre tie.handed_post goal.the-invariant-loop-j goal.the-decreases-loop-j tie.handed_clauses
+use Rattle.tables.proofs.raise_owners.Goals.{After-load_booking-booking, then-i-owner, else-i-owner}
 
 pub loop-j-init : goal.loop-j-init
 loop-j-init c =
     let room = c.args.room.now in
-    (omega arith, sized-by room c.requires.0, (refl, ap (λ bs. on_bookings (λ _. bs) (contents_of room)) (renumbered-none (raised c.args.i) (contents_of room).bookings)))
+    record {
+      sized = sized-by room c.requires.0;
+      raised = (refl, ap (λ bs. on_bookings (λ _. bs) (contents_of room)) (renumbered-none (raised c.args.i) (contents_of room).bookings));
+    }
 
 -- the booking that is loaded is as it was when the loop began
-loaded : (c : After-load_booking-booking)
-    → let room = c.args.room.now in
-    c.load_booking-booking.result ≡ get_or (contents_of room).bookings c.loop-j.j empty_booking
+loaded : (c : After-load_booking-booking) → c.load_booking-booking.result ≡ get_or (contents_of c.args.room.now).bookings c.loop-j.j empty_booking
 loaded c =
-    let room = c.args.room.now in
-    owner-read room c.loop-j.room (raised c.args.i) c.loop-j.j c.loop-j.invariant.2 empty_booking (omega arith) c.args.base c.requires.1 _ c.load_booking-booking.ensures
+    owner-read c.args.room.now c.loop-j.room (raised c.args.i) c.loop-j.j c.loop-j.invariant.raised empty_booking (omega arith) c.args.base c.requires.1 _ c.load_booking-booking.ensures
 
 small : (c : After-load_booking-booking) → CanRise c.load_booking-booking.result
 small c =
     let bs = (contents_of c.args.room.now).bookings in
     rw (loaded c) (all-taken CanRise c.args.live bs c.loop-j.j empty_booking c.requires.3 (omega arith) (rw bookings-length (omega arith)))
 
-pub store_booking-requires : goal.store_booking-requires
-store_booking-requires c =
-    let e = ap (λ b. b.owner) c.with_owner.ensures in record { within = omega arith; owner = omega (arith, e, small c.before.before.before) }
+pub overflow_add-renumbered : goal.overflow_add-renumbered
+overflow_add-renumbered c = omega (arith, small (goal.at.overflow_add-renumbered c).After-load_booking-booking)
+
+pub store_booking-requires-clause-owner : goal.store_booking-requires-clause-owner
+store_booking-requires-clause-owner c = omega (arith, small (goal.at.store_booking-requires-clause-owner c).After-load_booking-booking)
 
 pub loop-j-preserved : goal.loop-j-preserved
 loop-j-preserved c =
@@ -43,29 +40,19 @@ loop-j-preserved c =
     let i = c.args.i in
     let j = c.loop-j.j in
     let b = c.load_booking-booking.result in
-    let inv = c.loop-j.invariant.2 in
-    let f = raised i in (
-      omega arith,
-      c.loop-j.invariant.1,
-      elim c.if-i-owner.branch [
+    let so_far = c.loop-j.invariant.raised in
+    let read = loaded (goal.at.loop-j-preserved c).After-load_booking-booking in
+    let f = raised i in
+    record {
+      sized = c.loop-j.invariant.sized;
+      raised = elim c.if-i-owner.branch [
         | then-i-owner w ↦
             subst (Becomes (on_bookings (renumbered f (j + 1))) room) (sym w.room-is)
-            (owner-stored room c.loop-j.room f j inv empty_booking (omega arith) c.args.base c.requires.1 w.store_booking.new.room w.with_owner.result c.requires.0
+            (owner-stored room c.loop-j.room f j so_far empty_booking (omega arith) c.args.base c.requires.1 w.store_booking.new.room _ c.requires.0
             (w.store_booking.ensures.stored, w.store_booking.ensures.fits)
-            (w.with_owner.ensures ∙ sym (raised-from i b w.if-i-owner.true) ∙ ap f (loaded c.before)))
+            (sym (raised-from i b w.if-i-owner.true) ∙ ap f read))
         | else-i-owner w ↦
             subst (Becomes (on_bookings (renumbered f (j + 1))) room) (sym w.room-is)
-            (owner-kept room c.loop-j.room f j inv empty_booking (omega arith) (rw loaded at (raised-before i b w.if-i-owner.false)))
-      ],
-    )
-
-pub returns : goal.returns
-returns c =
-    let e : c.loop-j.j ≡ c.args.live = omega arith in
-    subst (λ j. Becomes (on_bookings (renumbered (raised c.args.i) j)) c.args.room.now c.loop-j.room) e c.loop-j.invariant.2
-
-pub overflow_add-owner : goal.overflow_add-owner
-overflow_add-owner c = omega (arith, small c.before.before)
-
-pub shape_of-room : goal.shape_of-room
-shape_of-room c = c.loop-j.invariant.2.0
+            (owner-kept room c.loop-j.room f j so_far empty_booking (omega arith) (rw read at (raised-before i b w.if-i-owner.false)))
+      ];
+    }

@@ -1,5 +1,4 @@
 -- `tables::raise_owners` meets its contract: the owners before j are renumbered.
-use Prim.Native.Nat.{◌-◌, ◌≤◌}
 use lib.ListN.{length}
 use Rattle.room.specs.Contents.{contents_of, raised, renumbered}
 use Rattle.tables.specs.Steps.{Becomes, on_bookings}
@@ -7,7 +6,8 @@ use Rattle.tables.proofs.Stores.{SizedBy}
 use Rattle.tables.proofs.raise_owners.Given as goal
 
 abbrev pub invariant-loop-j : goal.invariant-loop-j
-invariant-loop-j l = (l.j ≤ l.live) × SizedBy (length l.initial.room) (contents_of l.initial.room).sizes × Becomes (on_bookings (renumbered (raised l.i) l.j)) l.initial.room l.room
-
-abbrev pub decreases-loop-j : goal.decreases-loop-j
-decreases-loop-j l = l.live - l.j
+invariant-loop-j l =
+    record {
+      sized : SizedBy (length l.initial.room) (contents_of l.initial.room).sizes;
+      raised : Becomes (on_bookings (renumbered (raised l.i) l.j)) l.initial.room l.room
+    }

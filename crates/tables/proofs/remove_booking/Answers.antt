@@ -6,27 +6,28 @@ use lib.ListN.{length}
 use Rattle.room.specs.Contents.{contents_of, base_of, closed, empty_booking, removed_booking}
 use Rattle.tables.specs.Steps.{on_bookings, moved_down}
 use Rattle.tables.proofs.Moving.{closed-set}
-use Rattle.tables.proofs.Stores.{Loaded, loaded, stays, counted, bookings-length, booking-replaced}
+use Rattle.tables.proofs.Stores.{loaded, stays, counted, bookings-length, booking-replaced}
 use Rattle.tables.proofs.Whole.{removed}
-use Rattle.tables.proofs.remove_booking.Lts as place
-use Rattle.tables.proofs.remove_booking.Tie as tie
 use Rattle.tables.proofs.remove_booking.Goals as goal
-
-abbrev After-load_sizes-sizes : Type 0
-After-load_sizes-sizes = place.After-load_sizes tie.the-claims tie.handed_pre tie.handed_post tie.handed_clauses
-
-sizes : (c : After-load_sizes-sizes) → Loaded c.args.room.now c.load_sizes-sizes.result
-sizes c = loaded c.args.room.now c.load_sizes-sizes.result c.requires.0 c.load_sizes-sizes.ensures
 
 pub move_bookings_down-requires : goal.move_bookings_down-requires
 move_bookings_down-requires c =
-    let z = sizes c.before in
+    let z = loaded _ _ c.requires.0 c.load_sizes-sizes.ensures in
     (c.requires.0, omega arith, omega arith, omega arith)
+
+pub overflow_sub-live : goal.overflow_sub-live
+overflow_sub-live c = let z = loaded _ _ c.requires.0 c.load_sizes-sizes.ensures in omega arith
+
+pub store_booking-requires-clause-within : goal.store_booking-requires-clause-within
+store_booking-requires-clause-within c = let z = loaded _ _ c.requires.0 c.load_sizes-sizes.ensures in omega arith
+
+pub overflow_sub-sizes : goal.overflow_sub-sizes
+overflow_sub-sizes c = let z = loaded _ _ c.requires.0 c.load_sizes-sizes.ensures in omega arith
 
 pub returns : goal.returns
 returns c =
     let t = c.load_sizes-sizes.result in
-    let z = sizes c.before.before.before.before.before.before.before.before.before.before.before.before.before.before in
+    let z = loaded _ _ c.requires.0 c.load_sizes-sizes.ensures in
     let moved = c.move_bookings_down in
     let emptied = c.store_booking in
     let last = c.store_counts in
@@ -39,18 +40,3 @@ returns c =
     (omega arith) (emptied.ensures.stored, emptied.ensures.fits) (closed-set i t.live _ empty_booking bs (omega arith) all) in
     counted (on_bookings taken_out) (removed_booking i) room emptied.new.room last.new.room t.used (t.live - 1) (stays (on_bookings taken_out) room emptied.new.room (λ c. refl) c.requires.0 a) a
     (last.ensures.stored, last.ensures.fits) (removed (contents_of room) t z.sizes i)
-
-pub overflow_mul-base : goal.overflow_mul-base
-overflow_mul-base c = let z = sizes c in omega arith
-
-pub overflow_add-base : goal.overflow_add-base
-overflow_add-base c = let z = sizes c in omega arith
-
-pub overflow_sub-live : goal.overflow_sub-live
-overflow_sub-live c = let z = sizes c.before.before.before.before.before in omega arith
-
-pub store_booking-requires : goal.store_booking-requires
-store_booking-requires c = let z = sizes c.before.before.before.before.before in omega arith
-
-pub overflow_sub-sizes : goal.overflow_sub-sizes
-overflow_sub-sizes c = let z = sizes c.before.before.before.before.before.before.before.before.before.before in omega arith
