@@ -5,16 +5,17 @@ use mathlib.Core.Logic.{◌⊎◌, inl, inr}
 use mathlib.Core.Bool.{and-false}
 use mathlib.Core.List.{List, [], ◌∷◌, ◌++◌, append_assoc, append-nil}
 use mathlib.Core.Option.{Option, none, some}
-use Prim.Native.Nat.{ℕ, zero, suc, ◌+◌, ◌-◌, ◌*◌, ◌≤◌, ◌<◌}
+use Prim.Native.Nat.{ℕ, zero, suc, ◌+◌, ◌-◌, ◌*◌, ◌/◌, ◌≤◌, ◌<◌}
+use native.Mathlib.Nat.{add-zero}
 use native.Mathlib.Numerals.{add-one}
 use native.Mathlib.Omega.{arith}
 use borrow.Author.Tests.{lt-ltb, le-ltb, ltb-true, ltb-false}
 use lib.Dec.{ltb}
-use lib.ListN.{length, get_or, take, drop, set, take-append-drop}
-use lib.Seq.{drop-cons, drop-drop, take-add, take_all, take-suc-set, drop-set-lt, length-take-le}
+use lib.ListN.{length, get_or, take, drop, set, length-append, length-drop, take-append-drop}
+use lib.Seq.{get_or-drop, drop-cons, drop-drop, take-add, take_all, take-suc-set, drop-set-lt, length-take-le}
 use Rattle.rules.specs.Frames.{digit_of, byte_before, bytes_of_line}
 use Rattle.rules.proofs.Tests.{by_bool, none-some}
-use Rattle.digits.specs.declared.Decoded.TheVariants.{Bytes, BadFrame}
+use Rattle.std.specs.Prelude.{Some, None}
 use Rattle.digits.specs.Decoding.{Decodes, FrontDecoded}
 
 -- bytes before those of the rest, if that has any
@@ -45,6 +46,48 @@ pub record Pair (line : List ℕ) (at high low : ℕ) : Type 0 where
   pub is_high : high ≡ digit_of (get_or line at 0)
   pub is_low : low ≡ digit_of (get_or line (at + 1) 0)
   pub inside : at + 1 < length line
+
+-- the pairs that are left of a line once i of them are taken: pieces of two characters of its rest
+pub record PairsLeft (line : List ℕ) (i size : ℕ) (left : List ℕ) : Type 0 where
+  pub two : size ≡ 2
+  pub rest : left ≡ drop (i + i) line
+  pub inside : i + i ≤ length line
+
+two-taken : (line pair rest : List ℕ) (at : ℕ) → drop at line ≡ pair ++ rest → length pair ≡ 2 → (get_or pair 0 0 ≡ get_or line at 0) × (get_or pair 1 0 ≡ get_or line (at + 1) 0) × (rest ≡ drop (at + 2) line)
+two-taken line [] rest at e two = absurd (omega arith)
+two-taken line (x ∷ []) rest at e two = absurd (omega arith)
+two-taken line (x ∷ y ∷ z ∷ zs) rest at e two = absurd (omega arith)
+two-taken line (x ∷ y ∷ []) rest at e two = (
+  ap (λ xs. get_or xs 0 0) (sym e) ∙ get_or-drop at line 0 0 ∙ ap (λ n. get_or line n 0) (add-zero at),
+  ap (λ xs. get_or xs 1 0) (sym e) ∙ get_or-drop at line 1 0,
+  ap (drop 2) (sym e) ∙ drop-drop 2 at line,
+)
+
+-- a piece is taken
+module _ {line left : List ℕ} {i size : ℕ} (l : PairsLeft line i size left) (pair rest : List ℕ) (e : left ≡ pair ++ rest) (w : length pair ≡ size) where
+  parts : drop (i + i) line ≡ pair ++ rest
+  parts = sym l.rest ∙ e
+
+  fits : i + i + 2 ≤ length line
+  fits = omega (arith, l.inside, l.two, ap length parts, length-append pair rest, length-drop (i + i) line)
+
+  pub pair-taken : {high low : ℕ} → high ≡ digit_of (get_or pair 0 0) → low ≡ digit_of (get_or pair 1 0) → Pair line (i + i) high low
+  pair-taken h k =
+      let t = two-taken line pair rest (i + i) parts (w ∙ l.two) in
+      record { is_high = h ∙ ap digit_of t.0; is_low = k ∙ ap digit_of t.1; inside = omega (arith, fits) }
+
+  pub pairs-left : {next : ℕ} → next ≡ size → PairsLeft line (i + 1) next rest
+  pairs-left n =
+      let at : i + i + 2 ≡ i + 1 + (i + 1) = omega arith in
+      record {
+        two = n ∙ l.two;
+        rest = (two-taken line pair rest (i + i) parts (w ∙ l.two)).2 ∙ ap (λ n. drop n line) at;
+        inside = omega (arith, fits);
+      }
+
+-- where less than a piece is left, they are all taken
+pub no-pair-left : {line left : List ℕ} {i size : ℕ} → PairsLeft line i size left → length left < size → length line / 2 ≡ i
+no-pair-left {line} {i = i} l h = omega (arith, l.inside, l.two, ap length l.rest, length-drop (i + i) line)
 
 one_more : (line : List ℕ) (at : ℕ) → at < length line → bytes_of_line (take 1 (drop at line)) ≡ none
 unfolding bytes_of_line
@@ -141,14 +184,14 @@ module _ {line before after : List ℕ} {size : ℕ} (f : FrontDecoded line befo
   pub room-holds : after ≡ take size after ++ drop size before
   room-holds = sym (take-append-drop size after) ∙ ap (λ bs. take size after ++ bs) f.room
 
-  pub refused : size + size < length line → length after ≡ length before → Decodes (bytes_of_line line) before after BadFrame
-  refused h s = subst (λ bs. Decodes bs before after BadFrame) (sym (no_line h)) record { answer = refl; size = s }
+  pub refused : size + size < length line → length after ≡ length before → Decodes (bytes_of_line line) before after None
+  refused h s = subst (λ bs. Decodes bs before after None) (sym (no_line h)) record { answer = refl; size = s }
 
-  pub whole : length line ≤ size + size → Decodes (bytes_of_line line) before after (Bytes size)
+  pub whole : length line ≤ size + size → Decodes (bytes_of_line line) before after (Some size)
   whole h =
       let long : length (take size after) ≡ size = length-take-le size after f.fits in
-      subst (λ bs. Decodes bs before after (Bytes size)) (sym (whole-line h)) record {
-        answer = ap Bytes (sym long);
+      subst (λ bs. Decodes bs before after (Some size)) (sym (whole-line h)) record {
+        answer = ap Some (sym long);
         room = room-holds ∙ ap (λ n. take size after ++ drop n before) (sym long);
       }
 

@@ -18,5 +18,4 @@ entry f (suc n) zero h = refl
 entry f (suc n) (suc k) h = entry (λ k. f (suc k)) n k (le_of_suc-le-suc h)
 
 pub gives : (f : ℕ → ℕ) (n : ℕ) → Gives f n (table f n)
-unfolding Gives
 gives = entry

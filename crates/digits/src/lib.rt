@@ -32,19 +32,15 @@ pub fn front_bytes(line: &[u8], bytes: &mut [u8]) -> usize
     ensures { FrontDecoded line.now bytes.old bytes.new result }
 {
     let table = DIGIT;
-    let pairs = line.len() / 2;
-    let mut i = 0;
-    while i < pairs {
-        let at = i + i;
-        let high = digit(&table, line[at]);
-        let low = digit(&table, line[at + 1]);
+    for (i, pair) in line.chunks_exact(2).enumerate() {
+        let high = digit(&table, pair[0]);
+        let low = digit(&table, pair[1]);
         if 15 < high || 15 < low {
             return i;
         }
         bytes[i] = join(high, low);
-        i += 1;
     }
-    i
+    line.len() / 2
 }
 
 // Document 01, "Frames": all of the line is pairs of digits, or it is no frame.
@@ -60,7 +56,8 @@ pub fn bytes_of_line(line: &[u8], bytes: &mut [u8]) -> Option<usize>
 }
 
 fn character(table: &[u8; 16], digit: u8) -> u8
-    requires { Gives character_of 16 table.now × (digit < 16) }
+    requires table { Gives character_of 16 table.now }
+    requires within { digit < 16 }
     ensures { result ≡ character_of digit }
 {
     table[digit as usize]
@@ -72,13 +69,10 @@ pub fn spell(output: &mut [u8], size: usize)
     ensures { output.new ≡ line_of_bytes (take size output.old) ++ drop (size + size) output.old }
 {
     let table = CHARACTER;
-    let mut i = size;
-    while 0 < i {
-        i -= 1;
+    for i in (0..size).rev() {
         let byte = output[i];
-        let at = i + i;
-        output[at + 1] = character(&table, byte % 16);
-        output[at] = character(&table, byte / 16);
+        output[2 * i + 1] = character(&table, byte % 16);
+        output[2 * i] = character(&table, byte / 16);
     }
 }
 
@@ -89,11 +83,8 @@ pub fn spell_part(bytes: &[u8], output: &mut [u8])
         ≡ line_of_bytes bytes.now ++ drop (length bytes.now + length bytes.now) output.old }
 {
     let table = CHARACTER;
-    let mut i = 0;
-    while i < bytes.len() {
-        let at = i + i;
-        output[at + 1] = character(&table, bytes[i] % 16);
-        output[at] = character(&table, bytes[i] / 16);
-        i += 1;
+    for (i, byte) in bytes.iter().enumerate() {
+        output[2 * i + 1] = character(&table, *byte % 16);
+        output[2 * i] = character(&table, *byte / 16);
     }
 }

@@ -71,7 +71,7 @@ order-front (suc k) (x ∷ xs) (y ∷ ys) l h =
 abbrev pub part : (k j : ℕ) → List ℕ → List ℕ
 part k j xs = take k (drop j xs)
 
-pub part_length : (k j : ℕ) (xs : List ℕ) → j + k ≤ length xs → length (part k j xs) ≡ k
+part_length : (k j : ℕ) (xs : List ℕ) → j + k ≤ length xs → length (part k j xs) ≡ k
 part_length k j xs h = length-take-le k (drop j xs) (rw length-drop (omega arith))
 
 part_bytes : (k j : ℕ) (xs : List ℕ) → All IsByte xs → All IsByte (part k j xs)
