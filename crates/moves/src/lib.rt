@@ -29,6 +29,7 @@ pub fn has_account(seat: Seat) -> bool
 }
 
 // Opens an account with an amount that is not negative, where the name has none: one that is there stays as it is.
+#[tactic(auto, unfolding(rules::specs::AccountRules::ensure_rule, crate::specs::Moves::kept_seat))]
 pub fn ensure(seat: Seat, opening: u64) -> Option<Seat>
     requires { SeatSound seat × (opening ≤ M) }
     ensures { (ensuring_move result ≡ ensure_rule (pos opening) (account_of seat) seat.limit) × IfSome result SeatSound }
@@ -47,6 +48,7 @@ pub fn ensure(seat: Seat, opening: u64) -> Option<Seat>
 }
 
 // Adds a positive amount to an account.
+#[tactic(auto, unfolding(rules::specs::AccountRules::top_up_rule, crate::specs::Moves::kept_seat))]
 pub fn top_up(seat: Seat, added: u64) -> Result<Seat, Refusal>
     requires { SeatSound seat × (has_account (account_of seat) ≡ true) × (0 < added) }
     ensures { (topping_up_move (pos added) result ≡ top_up_rule (pos added) (account_of seat) seat.limit) × IfOk result SeatSound }
@@ -60,6 +62,7 @@ pub fn top_up(seat: Seat, added: u64) -> Result<Seat, Refusal>
 }
 
 // Sets the limit, with or without an account; 0 is none.
+#[tactic(auto, unfolding(rules::specs::RoomAndSoundLedger::M, rules::specs::AccountRules::limit_rule, crate::specs::Moves::kept_seat))]
 pub fn limit(seat: Seat, amount: Microcents) -> Result<Seat, Refusal>
     requires { SeatSound seat }
     ensures { (limiting_move result ≡ limit_rule amount.0 (account_of seat) seat.limit) × IfOk result SeatSound }
@@ -77,6 +80,7 @@ pub fn exceeds(limit: u64, reserved: u64) -> bool
 
 // Sets a positive cost aside, where an id was drawn for it. Reserved is the sum with the cost, which the limit allows. Insufficient uses the id up all the
 // same; the room for a booking is asked by the caller, last.
+#[tactic(auto, unfolding(rules::specs::AccountRules::reserve_rule, crate::specs::Moves::kept_seat))]
 pub fn reserve(seat: Seat, asked: u64, reserved: u64) -> Result<Seat, Refusal>
     requires known { SeatSound seat × (has_account (account_of seat) ≡ true) × (0 < asked) }
     requires sum { (reserved ≡ seat.reserved + asked) × (reserved ≤ M) × ((ltb 0 seat.limit && ltb seat.limit reserved) ≡ false) }
@@ -93,6 +97,7 @@ pub fn reserve(seat: Seat, asked: u64, reserved: u64) -> Result<Seat, Refusal>
 }
 
 // Spends what was booked, more or less of it: delta is taken from what remains, or given back where it is negative. Committed is the sum with what is spent.
+#[tactic(auto, unfolding(rules::specs::AccountRules::commit_rule, crate::specs::Moves::kept_seat))]
 pub fn commit(seat: Seat, booked: Held, spent: u64, committed: u64) -> Result<Seat, Refusal>
     requires known { SeatSound seat × (has_account (account_of seat) ≡ true) × (booked.0 ≤ seat.reserved) }
     requires sum { (committed ≡ seat.committed + spent) × (committed ≤ M) }
@@ -111,6 +116,7 @@ pub fn commit(seat: Seat, booked: Held, spent: u64, committed: u64) -> Result<Se
 }
 
 // Gives back what was booked.
+#[tactic(auto, unfolding(rules::specs::AccountRules::release_rule, crate::specs::Moves::kept_seat))]
 pub fn release(seat: Seat, booked: Held) -> Result<Seat, Refusal>
     requires { SeatSound seat × (booked.0 ≤ seat.reserved) }
     ensures { (releasing_settlement booked.0 result ≡ release_rule (some booked.0) (account_of seat) seat.limit) × IfOk result SeatSound }
