@@ -1,5 +1,5 @@
 -- `soundness::tables_sound` meets its contract: each test asks for one part of the tables (Parts), where those before it hold.
-use Rattle.std.proofs.Common.{◌≡◌, refl}
+use Rattle.std.proofs.Common.{refl}
 use Rattle.numbers.proofs.Bytes.{all-bytes}
 use Rattle.soundness.proofs.Deciding.{refuse, by_answer}
 use Rattle.soundness.proofs.Parts.{places-part, unused-places-part, booked-part, unused-bookings-part, of_parts}
