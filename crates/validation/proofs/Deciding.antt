@@ -1,5 +1,5 @@
 -- Checks in their order, as code asks them: one that fails decides, and one that passes leaves what stands after it.
-use mathlib.Core.Path.{◌≡◌, refl, sym, ap, ◌∙◌}
+use mathlib.Core.Path.{◌≡◌, refl, ap}
 use mathlib.Core.Logic.{◌≢◌}
 use mathlib.Core.Bool.{Bool, true, false}
 use mathlib.Core.List.{[]}
