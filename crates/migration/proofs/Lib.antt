@@ -1,3 +1,2 @@
 pub mod MigratedBytes
 pub mod Refusing
-pub mod Untouched

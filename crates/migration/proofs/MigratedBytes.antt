@@ -8,7 +8,7 @@ use lib.ListN.{length, take, drop}
 use lib.Seq.{take_at}
 use Rattle.rules.specs.Lists.{All}
 use Rattle.rules.specs.RoomAndSoundLedger.{IsByte}
-use Rattle.rules.specs.SnapshotsMigrationCertificates.{Snapshot, bytes_of, snapshot_bytes, snapshot_of_bytes, with_version}
+use Rattle.rules.specs.SnapshotsMigrationCertificates.{Snapshot, bytes_of, snapshot_bytes, snapshot_of_bytes, with_version, tagged}
 use Rattle.rules.proofs.SnapshotBytes.{snapshot-only, snapshot-length}
 
 module _ (bs : List ℕ) (bytes : All IsByte bs) (s : Snapshot) (read : snapshot_of_bytes bs ≡ some s) (version : ℕ) where
@@ -23,10 +23,9 @@ module _ (bs : List ℕ) (bytes : All IsByte bs) (s : Snapshot) (read : snapshot
   pub migrated-length : length (snapshot_bytes (with_version version s)) ≡ length bs
   migrated-length = snapshot-length (with_version version s) ∙ sym (snapshot-length s) ∙ ap length supplied
 
--- an output that begins with such bytes, and then keeps its content
-module _ (handed output : List ℕ) (size : ℕ) (long : length handed ≡ size) (after : List ℕ) (is : after ≡ handed ++ drop size output) where
-  pub handed_out : take size after ≡ handed
-  handed_out = ap (take size) is ∙ take_at handed (drop size output) size long
-
-  pub kept-behind : after ≡ take size after ++ drop (length (take size after)) output
-  kept-behind = is ∙ ap (λ n. handed ++ drop n output) (sym long) ∙ ap (λ l. l ++ drop (length l) output) (sym handed_out)
+-- an output over whose front they are written
+module _ (bs : List ℕ) (bytes : All IsByte bs) (s : Snapshot) (read : snapshot_of_bytes bs ≡ some s) (fence : ℕ) (output after : List ℕ) where
+  pub front : after ≡ bytes_of 8 (tagged fence) ++ drop 8 bs ++ drop (length bs) output → take (length bs) after ≡ snapshot_bytes (with_version (tagged fence) s)
+  front written =
+      ap (take (length bs)) (written ∙ ap (λ l. l ++ drop (length bs) output) (sym (migrated-bytes bs bytes s read (tagged fence))))
+      ∙ take_at (snapshot_bytes (with_version (tagged fence) s)) (drop (length bs) output) (length bs) (migrated-length bs bytes s read (tagged fence))
