@@ -30,7 +30,7 @@ returns-in-Ok c s e =
     let output = c.args.output.now in
     let room : 1 ≤ length output = omega (arith, c.requires.1) in
     let few = (snapshot-only c.args.bytes.now (all-bytes c.args.bytes.now c.type_inv.bytes) s e).1.count in
-    matched (((c.in-Ok.ensures.answer s e ∙ same-migration (long output c.requires.1) c.args.fence s few))
+    matched (sym (c.in-Ok.ensures.answer s e ∙ same-migration (long output c.requires.1) c.args.fence s few))
     (subst (λ n. WritesReply (done (SnapshotBytes (take c.in-Ok.size c.migrate.new.output) ∷ [])) output c.behind_number.new.output n) (sym c.behind_number.ensures.size)
     (handed-out output room c.in-Ok.size c.migrate.new.output (omega (arith, c.in-Ok.ensures.size.1, c.migrate.auto.output)) c.in-Ok.ensures.output c.behind_number.ensures.output))
 
@@ -39,5 +39,5 @@ returns-in-Err c s e =
     let output = c.args.output.now in
     let refusal = refusal_of c.in-Err.refusal in
     let few = (snapshot-only c.args.bytes.now (all-bytes c.args.bytes.now c.type_inv.bytes) s e).1.count in
-    matched (((c.in-Err.ensures.answer s e ∙ same-migration (long output c.requires.1) c.args.fence s few))
+    matched (sym (c.in-Err.ensures.answer s e ∙ same-migration (long output c.requires.1) c.args.fence s few))
     (subst (λ before. WritesReply (reply_of refusal) before c.write_refusal.new.output c.write_refusal.result) (refusal-leaves output refusal c.in-Err.ensures.output) c.write_refusal.ensures)
