@@ -1,4 +1,4 @@
--- Laws of little-endian numbers: there and back over any size, and as code reads and writes them.
+-- Laws of little-endian numbers: there and back over any size, and as std writes and reads them.
 use mathlib.Core.Path.{◌≡◌, refl, ◌∙◌, ap, sym}
 use mathlib.Core.List.{List, [], ◌∷◌}
 use Prim.Native.Nat.{ℕ, zero, suc, ◌+◌, ◌*◌, ◌/◌, ◌%◌, ◌^◌, ◌<◌}

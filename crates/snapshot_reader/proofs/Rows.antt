@@ -204,12 +204,16 @@ module _ {bs : List ℕ} {all : List Row} {at : ℕ} {So-far : (earlier later : 
       (λ row later first. absurd (omega arith))
       p.rows p.so_far
 
+-- where the name of a row that stands here ends
+pub ends_there : {bs : List ℕ} {at end : ℕ} (s : RowStands bs at) → Ends bs at end → EndsName bs at s.row s.later end
+ends_there s ends = ends s.row s.later s.from
+
 -- the next row starts further on, and not past the end
 abbrev pub Further : (bs : List ℕ) (at end : ℕ) → Type 0
 Further bs at end = (at < end + row_amounts) × (end + row_amounts ≤ length bs)
 
 pub forward : {bs : List ℕ} {at end : ℕ} → RowStands bs at → Ends bs at end → Further bs at end
-forward s ends = let e = ends s.row s.later s.from in (omega (arith, e.size), e.within)
+forward s ends = let e = ends_there s ends in (omega (arith, e.size), e.within)
 
 -- ── short names ────────────────────────────────────────────────────────────────────────────────
 

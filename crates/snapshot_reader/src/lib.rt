@@ -29,39 +29,33 @@ fn row_end(bytes: &[u8], at: usize) -> Option<usize>
     requires { at ≤ length bytes.now }
     ensures { RowEnds bytes.now at (read_row (drop at bytes.now)) result }
 {
-    let left = bytes.len() - at;
-    if left == 0 {
-        return None;
-    }
-    let size = rules::SHORTEST_ROW + bytes[at] as usize;
-    if left < size {
+    let name_size = *bytes.get(at)? as usize;
+    let size = rules::SHORTEST_ROW + name_size;
+    if bytes.len() - at < size {
         return None;
     }
     Some(at + size)
 }
 
 // Whether bytes are a snapshot: every row that the count promises is there, nothing stands behind them, and they are no more than a ledger has names; and
-// whether no name is longer than a place could hold: 23 comes before 19 (document 01, "Frames"). One pass over the rows, which looks at the length of each name alone. A long name does not end it: bytes
-// that are no snapshot have no names.
+// whether no name is longer than a place could hold: 23 comes before 19 (document 01, "Frames"). One pass over the rows, which looks at the length of each
+// name alone. A long name does not end it: bytes that are no snapshot have no names.
 pub fn check(bytes: &[u8]) -> Result<(), Refusal>
     ensures { result ≡ checked_as (snapshot_of_bytes bytes.now) }
 {
     if bytes.len() < rules::SNAPSHOT_HEADER {
         return Err(Refusal::BadFrame);
     }
-    let mut left = big_endian::read2(&bytes[rules::COUNT_START..rules::SNAPSHOT_HEADER]);
-    if MOST_ROWS < left {
+    let count = big_endian::read2(&bytes[rules::COUNT_START..rules::SNAPSHOT_HEADER]);
+    if MOST_ROWS < count {
         return Err(Refusal::BadFrame);
     }
     let mut at = rules::SNAPSHOT_HEADER;
     let mut long = false;
-    while 0 < left {
-        let Some(end) = row_end(bytes, at) else {
-            return Err(Refusal::BadFrame);
-        };
-        long = long | (LONGEST_NAME < bytes[at]);
+    for _ in 0..count {
+        let end = row_end(bytes, at).ok_or(Refusal::BadFrame)?;
+        long |= LONGEST_NAME < bytes[at];
         at = end;
-        left -= 1;
     }
     if at < bytes.len() {
         return Err(Refusal::BadFrame);
@@ -121,15 +115,13 @@ pub fn read_row(bytes: &[u8], at: usize) -> StandingRow
     ensures { OfRow bytes.now at (λ row later. ReadsRow bytes.now at row later result) }
 {
     let name_end = name_end(bytes, at);
-    let second = name_end + 8;
-    let third = name_end + 16;
-    let fourth = name_end + 24;
     let end = name_end + rules::ROW_AMOUNTS;
+    let amounts = &bytes[name_end..end];
     StandingRow {
-        initial: big_endian::read_amount(&bytes[name_end..second]),
-        remaining: big_endian::read_amount(&bytes[second..third]),
-        reserved: big_endian::read_amount(&bytes[third..fourth]),
-        committed: big_endian::read_amount(&bytes[fourth..end]),
+        initial: big_endian::read_amount(&amounts[0..8]),
+        remaining: big_endian::read_amount(&amounts[8..16]),
+        reserved: big_endian::read_amount(&amounts[16..24]),
+        committed: big_endian::read_amount(&amounts[24..32]),
         name_end,
         end,
     }
@@ -140,12 +132,5 @@ pub fn has_long_name(bytes: &[u8]) -> bool
     requires { IsSnapshot bytes.now }
     ensures { OfSnapshot bytes.now (λ s. result ≡ has_long_name s.rows) }
 {
-    let mut at = rules::SNAPSHOT_HEADER;
-    while at < bytes.len() {
-        if LONGEST_NAME < bytes[at] {
-            return true;
-        }
-        at = name_end(bytes, at) + rules::ROW_AMOUNTS;
-    }
-    false
+    check(bytes).is_err()
 }

@@ -120,8 +120,7 @@ fn name_part(room: &[u8], i: usize, part: usize) -> &[u8]
     ensures width { length result.now ≡ 8 }
 {
     let from = records::FIRST_NAME_BYTES + records::PLACE_SIZE * i + 8 * part;
-    let end = from + 8;
-    &room[from..end]
+    &room[from..from + 8]
 }
 
 // Whether eight bytes, as a number with the lowest first, are zero from one of them on.
@@ -260,10 +259,11 @@ pub fn is_sound(room: &[u8]) -> bool
 pub fn expect_sound(room: &[u8]) -> Result<(), Refusal>
     ensures { ExpectsSound room.now result }
 {
-    if !is_sound(room) {
-        return Err(Refusal::UnsoundLedger);
+    if is_sound(room) {
+        Ok(())
+    } else {
+        Err(Refusal::UnsoundLedger)
     }
-    Ok(())
 }
 
 // A fresh ledger (document 01, Room and the sound ledger): over zeros only the sizes and the next id are left to write.

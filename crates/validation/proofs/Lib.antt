@@ -1,5 +1,4 @@
 pub mod Deciding
-pub mod StoredForm
 pub mod Balancing
 pub mod Validating
 pub mod Seen

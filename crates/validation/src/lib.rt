@@ -9,15 +9,15 @@ ghost use Rattle.rules.specs.RoomAndSoundLedger.{same};
 ghost use Rattle.rules.specs.SnapshotsMigrationCertificates.{row_conservation, conservation, row_validation, rows_validation, validation, status};
 ghost use Rattle.names.specs.Names.{spelled, stored};
 ghost use Rattle.refusals.specs.Answers.{refusal_of, refusal_in, answer_of, carries_nothing};
-ghost use Rattle.snapshot_reader.specs.Standing.{IsSnapshot, ShortNames, RowOf, OfSnapshot};
-ghost use Rattle.validation.specs.Judgement.{of_row, row_refusal, row_with, seen_in};
+ghost use Rattle.snapshot_reader.specs.Standing.{IsSnapshot, ShortNames, RowStands, RowOf, OfRow, OfSnapshot};
+ghost use Rattle.validation.specs.Judgement.{Pass, Judges, of_row, row_refusal, row_with, seen_in};
 
 use numbers::Microcents;
 use refusals::{Refusal, TenantName};
 
 // What is wrong with a row: a refusal that is yet without the row's name.
 #[derive(Clone, Copy)]
-pub enum RowRefusal {
+enum RowRefusal {
     DuplicateTenant,
     GhostReservation(Microcents),
     NegativeLedgerField(u8, Microcents),
@@ -55,30 +55,34 @@ fn balance_of(
 {
     let held = totals::plus(totals::plus(totals::nothing(), remaining), reserved);
     let sum = totals::plus(held, committed);
-    let Some(exact) = totals::fit(sum) else {
-        return Err(RowRefusal::AggregateOverflow);
-    };
+    let exact = totals::fit(sum).ok_or(RowRefusal::AggregateOverflow)?;
     if exact.0 == initial.0 {
         if remaining.0 < 0 {
             return Err(RowRefusal::ConservationViolation(remaining));
         }
         return Ok(());
     }
-    let Some(delta) = totals::fit(totals::minus(sum, initial)) else {
-        return Err(RowRefusal::AggregateOverflow);
-    };
+    let delta = totals::fit(totals::minus(sum, initial)).ok_or(RowRefusal::AggregateOverflow)?;
     Err(RowRefusal::ConservationViolation(delta))
 }
 
-// The name of the row that starts here, kept by value.
+// The name of the row that starts here, where it stands.
+fn name_at(bytes: &[u8], at: usize) -> &[u8]
+    requires { RowStands bytes.now at }
+    ensures { OfRow bytes.now at (λ row later. result.now ≡ row.name) }
+{
+    let from = at + 1;
+    let end = snapshot_reader::name_end(bytes, at);
+    &bytes[from..end]
+}
+
+// The same, kept by value.
 fn tenant_at(bytes: &[u8], at: usize) -> TenantName
     requires { RowOf bytes.now at }
     ensures { (here : RowOf bytes.now at) → result.name ≡ stored here.row.name }
 {
-    let from = at + 1;
-    let end = snapshot_reader::name_end(bytes, at);
     TenantName {
-        name: names::name_of(&bytes[from..end]),
+        name: names::name_of(name_at(bytes, at)),
     }
 }
 
@@ -90,14 +94,15 @@ fn row_conservation(bytes: &[u8], at: usize) -> Result<(), RowRefusal>
     balance_of(row.initial, row.remaining, row.reserved, row.committed)
 }
 
-// The first row that does not balance is answered. One pass over the rows.
-pub fn conservation(bytes: &[u8]) -> Result<(), Refusal>
-    requires { ShortNames bytes.now }
-    ensures { OfSnapshot bytes.now (λ s. refusal_in result ≡ conservation s.rows) }
+// The first row that a check refuses is answered, with its name. One pass over the rows.
+fn each_row<F: Fn(usize) -> Result<(), RowRefusal>>(bytes: &[u8], check: F) -> Result<(), Refusal>
+    ghost pass: { Pass }
+    requires { ShortNames bytes.now × Judges pass bytes.now (F.pre check) (F.post check) }
+    ensures { OfSnapshot bytes.now (λ s. refusal_in result ≡ pass.rest [] s.rows) }
 {
     let mut at = rules::SNAPSHOT_HEADER;
     while at < bytes.len() {
-        if let Err(refusal) = row_conservation(bytes, at) {
+        if let Err(refusal) = check(at) {
             return Err(refusal.with_name(tenant_at(bytes, at)));
         }
         at = snapshot_reader::name_end(bytes, at) + rules::ROW_AMOUNTS;
@@ -105,21 +110,26 @@ pub fn conservation(bytes: &[u8]) -> Result<(), Refusal>
     Ok(())
 }
 
+// The first row that does not balance is answered. One pass over the rows.
+pub fn conservation(bytes: &[u8]) -> Result<(), Refusal>
+    requires { ShortNames bytes.now }
+    ensures { OfSnapshot bytes.now (λ s. refusal_in result ≡ conservation s.rows) }
+{
+    each_row(bytes, |at| row_conservation(bytes, at))
+}
+
 // 11: the row's name against that of each row before it.
 fn seen_earlier(bytes: &[u8], at: usize) -> bool
     requires { RowOf bytes.now at }
     ensures { (here : RowOf bytes.now at) → result ≡ any (same here.row.name) (seen_in [] here.earlier) }
 {
-    let from = at + 1;
-    let end = snapshot_reader::name_end(bytes, at);
+    let name = name_at(bytes, at);
     let mut earlier = rules::SNAPSHOT_HEADER;
     while earlier < at {
-        let earlier_from = earlier + 1;
-        let earlier_end = snapshot_reader::name_end(bytes, earlier);
-        if names::is_same(&bytes[from..end], &bytes[earlier_from..earlier_end]) {
+        if names::is_same(name, name_at(bytes, earlier)) {
             return true;
         }
-        earlier = earlier_end + rules::ROW_AMOUNTS;
+        earlier = snapshot_reader::name_end(bytes, earlier) + rules::ROW_AMOUNTS;
     }
     false
 }
@@ -157,14 +167,7 @@ fn rows_validation(bytes: &[u8]) -> Result<(), Refusal>
     requires { ShortNames bytes.now }
     ensures { OfSnapshot bytes.now (λ s. refusal_in result ≡ rows_validation [] s.rows) }
 {
-    let mut at = rules::SNAPSHOT_HEADER;
-    while at < bytes.len() {
-        if let Err(refusal) = row_validation(bytes, at) {
-            return Err(refusal.with_name(tenant_at(bytes, at)));
-        }
-        at = snapshot_reader::name_end(bytes, at) + rules::ROW_AMOUNTS;
-    }
-    Ok(())
+    each_row(bytes, |at| row_validation(bytes, at))
 }
 
 // The ledger validation: nothing may be live (10), the rows are checked one by one, and then they must balance. Two passes over the rows.
