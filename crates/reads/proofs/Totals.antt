@@ -10,7 +10,7 @@ use borrow.Author.Tests.{eq-eqb, ne_eqb, lt-ltb, le-ltb, ltb-true, ltb-false}
 use lib.Dec.{ltb, eqb}
 use lib.IntN.{pos}
 use lib.ListN.{length}
-use Rattle.std.specs.Prelude.{Option as Total, Some, None, Result, Ok, Err, IfOk, ok_or, unwrap_or}
+use Rattle.std.specs.Prelude.{Option as Total, Some, None, Result, Ok, ok_or, unwrap_or}
 use Rattle.rules.specs.Lists.{sum, keep}
 use Rattle.rules.specs.RoomAndSoundLedger.{M, Account, Place as RulesPlace, Ledger, has_account, committed_of, committed_at, committed_total}
 use Rattle.rules.specs.AnswerNumbers.{Amount, Count, Version, done, reply_of}
@@ -91,19 +91,18 @@ module _ (t : ℕ) where
   capped : unwrap_or (summed t) M ≡ min t M
   capped = by-test (λ s. unwrap_or s M ≡ min t M) (ltb M t) (λ h. sym (min-eq_right (omega (arith, ltb-true M t h)))) (λ h. sym (min-eq_left (omega (arith, ltb-false M t h))))
 
--- ── the ledger ─────────────────────────────────────────────────────────────────────────────────
+-- ── the total ──────────────────────────────────────────────────────────────────────────────────
 
-module _ (L : Ledger) where
-  module _ (o : Total ℕ) (is : o ≡ summed (committed_total L.places)) where
-    abbrev total : ℕ
-    total = committed_total L.places
+module _ (L : Ledger) (o : Total ℕ) (is : o ≡ summed (committed_total L.places)) where
+  abbrev total : ℕ
+  total = committed_total L.places
 
-    pub total-reads : (r : Result ℕ Refusal) → r ≡ ok_or o AggregateOverflow → answer_of (λ n. Amount (pos n) ∷ []) r ≡ read_ledger L read_committed_total
-    unfolding read_ledger
-    total-reads r e =
-        ap (answer_of (λ n. Amount (pos n) ∷ [])) (e ∙ ap (λ o. ok_or o AggregateOverflow) is)
-        ∙ by_bool (λ b. answer_of (λ n. Amount (pos n) ∷ []) (ok_or (cond b None (Some total)) AggregateOverflow) ≡ cond b (reply_of rules.AggregateOverflow) (done (Amount (pos total) ∷ []))) (ltb M total)
-        (λ _. refl) (λ _. refl)
+  pub total-reads : (r : Result ℕ Refusal) → r ≡ ok_or o AggregateOverflow → answer_of (λ n. Amount (pos n) ∷ []) r ≡ read_ledger L read_committed_total
+  unfolding read_ledger
+  total-reads r e =
+      ap (answer_of (λ n. Amount (pos n) ∷ [])) (e ∙ ap (λ o. ok_or o AggregateOverflow) is)
+      ∙ by_bool (λ b. answer_of (λ n. Amount (pos n) ∷ []) (ok_or (cond b None (Some total)) AggregateOverflow) ≡ cond b (reply_of rules.AggregateOverflow) (done (Amount (pos total) ∷ []))) (ltb M total)
+      (λ _. refl) (λ _. refl)
 
 -- ── the room of a ledger ───────────────────────────────────────────────────────────────────────
 

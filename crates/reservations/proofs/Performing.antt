@@ -1,5 +1,5 @@
 -- What an operation promises, from its outcome: a refusal changes nothing; else the room is that of the ledger after it.
-use mathlib.Core.Path.{◌≡◌, sym, ◌∙◌, ap, subst}
+use mathlib.Core.Path.{◌≡◌, sym, ap, subst}
 use mathlib.Core.List.{List}
 use Prim.Native.Nat.{ℕ}
 use native.Mathlib.Omega.{arith}

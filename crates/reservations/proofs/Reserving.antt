@@ -6,7 +6,7 @@ use Prim.Native.Nat.{ℕ, ◌^◌, ◌≤◌, ◌<◌}
 use native.Mathlib.Omega.{arith}
 use borrow.Author.Tests.{lt-ltb, le-ltb, eq-eqb, ne_eqb}
 use lib.IntN.{ℤ, pos}
-use lib.ListN.{length, get_or, take}
+use lib.ListN.{length, get_or}
 use lib.Signed.{mag}
 use mir.Syntax.{w8}
 use mir.Val.{Fits}
@@ -25,14 +25,13 @@ use Rattle.refusals.specs.declared.Refusal.{Refusal as TheRefusal}
 use Rattle.refusals.specs.Answers.{answer_of}
 use Rattle.moves.specs.Moves.{account_of, meaning, kept_seat, SeatSound}
 use Rattle.moves.specs.declared.Seat.{Seat}
-use Rattle.records.specs.declared.Place.{Place}
 use Rattle.records.specs.declared.Head.{Head}
 use Rattle.records.specs.Records.{booking, head_of}
 use Rattle.heads.specs.Heads.{identifier_at, after_draw, drawn_head}
 use Rattle.heads.specs.declared.Drawn.{Drawn}
 use Rattle.heads.proofs.Draws.{none_left, one_left, old-next-id, head-drawn}
 use Rattle.room.specs.Contents.{contents_of, Sized, used_places, place_of_name, with_head, appended_booking}
-use Rattle.room.specs.Room.{place_number, place_record, head_in, contents_in, IsRoom, SoundRoom, Performed, Performs}
+use Rattle.room.specs.Room.{place_number, head_in, contents_in, IsRoom, SoundRoom, Performs}
 use Rattle.room.specs.Seats.{FoundIn, seat_found, with_seat}
 use Rattle.room.proofs.Numbers.{found_number}
 use Rattle.room.proofs.Steps.{id-drawn}

@@ -1,2 +1,3 @@
+pub mod Checking
 pub mod Versions
 pub mod Restoring

@@ -8,8 +8,9 @@ use borrow.Author.Tests.{ltb-false}
 use lib.ListN.{length, get_or}
 use mir.Syntax.{w8}
 use mir.Val.{Fits}
+use Rattle.std.specs.Prelude.{Result, Ok, Err}
 use Rattle.rules.specs.RoomAndSoundLedger.{Ledger, Sound}
-use Rattle.rules.specs.AnswerNumbers.{Refusal, Reply, sound, done, on_lent}
+use Rattle.rules.specs.AnswerNumbers.{Refusal, Reply, reply_of, Outcome, outcome, refused as refuse, sound, done, on_lent}
 use Rattle.rules.specs.SnapshotsMigrationCertificates.{Snapshot, validation, restored, or_else, restore_version, recovery_version, restore_refusal, restore, recovery_restore, reply_or}
 use Rattle.rules.specs.Frames.{restore_from, recover_from, answer}
 use Rattle.rules.specs.Domain.{SnapshotFits}
@@ -19,10 +20,8 @@ use Rattle.rules.proofs.SnapshotSoundness.{answer-sound}
 use Rattle.names.specs.Names.{spelled}
 use Rattle.numbers.proofs.Bytes.{all-bytes}
 use Rattle.snapshot_reader.specs.Standing.{IsSnapshot, OfSnapshot}
-use Rattle.validation.specs.declared.Verdict.TheVariants as verdict
-use Rattle.validation.specs.declared.Judged.{Judged}
-use Rattle.validation.specs.Judgement.{refusal_of, refusal_in, judged_reply}
-use Rattle.validation.proofs.Deciding.{NotDone, refusal-given}
+use Rattle.refusals.specs.declared.Refusal.{Refusal as Told}
+use Rattle.refusals.specs.Answers.{refusal_of, refusal_in, answer_of, carries_nothing}
 use Rattle.records.specs.Records.{sizes_of}
 use Rattle.records.specs.declared.Sizes.{Sizes}
 use Rattle.room.specs.Room.{IsRoom, OfRoom, Performed}
@@ -32,20 +31,14 @@ use Rattle.restoring.specs.Forms.{restore_by, Restores, Keeps}
 
 -- ── what was checked decides the answer and the ledger ─────────────────────────────────────────
 
-module _ (L after : Ledger) where
-  same-reply : (o : Option Refusal) → reply_or o (done []) ≡ (or_else o L after).reply
-  unfolding reply_or or_else
-  same-reply none = refl
-  same-reply (some x) = refl
-
-  ledger-kept : (o : Option Refusal) → o ≢ none → (or_else o L after).ledger ≡ L
+module _ (L after : Ledger) {o : Option Refusal} where
+  refused-outcome : {e : Refusal} → some e ≡ o → refuse e L ≡ or_else o L after
   unfolding or_else
-  ledger-kept none h = absurd (h refl)
-  ledger-kept (some x) h = refl
+  refused-outcome is = ap (λ o. or_else o L after) is
 
-  ledger-after : (o : Option Refusal) → o ≡ none → (or_else o L after).ledger ≡ after
+  passed-outcome : none ≡ o → outcome (done []) after ≡ or_else o L after
   unfolding or_else
-  ledger-after o e = ap (λ o. (or_else o L after).ledger) e
+  passed-outcome is = ap (λ o. or_else o L after) is
 
 -- a snapshot that no check refuses is one that the ledger takes
 takes : {names : ℕ} {bytes : List ℕ} (of-version : Option Refusal) → OfSnapshot bytes (λ s. restore_refusal of-version names s ≡ none → Takes names bytes)
@@ -60,39 +53,38 @@ takes {names} of-version s is_read e =
 -- ── both forms, by what is said of the version ─────────────────────────────────────────────────
 
 -- what was checked is the refusal of the rules
-pub record Told (of-version : Option Refusal) (room bytes : List ℕ) (j : Judged) : Type 0 where
-  pub is : OfSnapshot bytes (λ s. OfRoom room (λ L. refusal_in j ≡ restore_refusal of-version L.T s))
+pub record Checked (of-version : Option Refusal) (room bytes : List ℕ) (r : Result (Unit {0}) Told) : Type 0 where
+  pub is : OfSnapshot bytes (λ s. OfRoom room (λ L. refusal_in r ≡ restore_refusal of-version L.T s))
 
-pub checked : {of-version : Option Refusal} {room bytes : List ℕ} {j : Judged} {sizes : Sizes} → sizes ≡ sizes_of room
-    → OfSnapshot bytes (λ s. refusal_in j ≡ restore_refusal of-version sizes.names s) → Told of-version room bytes j
+pub checked : {of-version : Option Refusal} {room bytes : List ℕ} {r : Result (Unit {0}) Told} {sizes : Sizes} → sizes ≡ sizes_of room
+    → OfSnapshot bytes (λ s. refusal_in r ≡ restore_refusal of-version sizes.names s) → Checked of-version room bytes r
 checked {of-version} {room} are judged =
     record { is = λ s e L is_room. judged s e ∙ ap (λ sizes. restore_refusal of-version sizes.names s) (are ∙ sizes-are room L is_room) }
 
-module _ {of-version : Option Refusal} {room bytes : List ℕ} {j : Judged} (told : Told of-version room bytes j) where
-  pub refused : NotDone j.verdict → Restores (restore_by of-version) bytes room (judged_reply j) room
-  refused other s e L is_room =
-      let is = told.is s e L is_room in
-      record {
-        answer = ap (λ o. reply_or o (done [])) is ∙ same-reply L (restored L s) _;
-        room = subst (IsRoom room) (sym (ledger-kept L (restored L s) _ (λ passed. refusal-given (spelled j.name) j.verdict other (is ∙ passed)))) is_room;
-      }
+module _ {of-version : Option Refusal} {room bytes : List ℕ} {r : Result (Unit {0}) Told} (told : Checked of-version room bytes r) where
+  pub refused : {e : Told} → r ≡ Err e → Restores (restore_by of-version) bytes room (reply_of (refusal_of e)) room
+  refused {e} given s is_read L is_room =
+      let is : some (refusal_of e) ≡ restore_refusal of-version L.T s = ap refusal_in (sym given) ∙ told.is s is_read L is_room in
+      let same = refused-outcome L (restored L s) is in
+      record { answer = ap (λ x. x.reply) same; room = subst (IsRoom room) (ap (λ x. x.ledger) same) is_room }
 
-  module _ (passed : j.verdict ≡ verdict.Done) where
-    none-refused : OfSnapshot bytes (λ s. OfRoom room (λ L. restore_refusal of-version L.T s ≡ none))
-    none-refused s e L is_room = sym (told.is s e L is_room) ∙ ap (refusal_of (spelled j.name)) passed
+  module _ {x : Unit {0}} (passed : r ≡ Ok x) where
+    none-refused : OfSnapshot bytes (λ s. OfRoom room (λ L. none ≡ restore_refusal of-version L.T s))
+    none-refused s e L is_room = ap refusal_in (sym passed) ∙ told.is s e L is_room
 
     pub taken : IsSnapshot bytes → OfRoom room (λ L. Takes L.T bytes)
-    taken known L is_room = takes of-version known.snapshot known.is_read (none-refused known.snapshot known.is_read L is_room)
+    taken known L is_room = takes of-version known.snapshot known.is_read (sym (none-refused known.snapshot known.is_read L is_room))
 
     pub replaced : {after : List ℕ} → OfRoom room (λ L. OfSnapshot bytes (λ s. Holds (restored L s) room after)) → ((i : ℕ) → Fits w8 (get_or bytes i 0))
-        → Keeps bytes of-version → Restores (restore_by of-version) bytes room (judged_reply j) after
+        → Keeps bytes of-version → Restores (restore_by of-version) bytes room (done []) after
     replaced {after} filled are-bytes keeps s e L is_room =
-        let is = ledger-after L (restored L s) _ (none-refused s e L is_room) in
+        let same = passed-outcome L (restored L s) (none-refused s e L is_room) in
+        let ledger : restored L s ≡ (restore_by of-version L s).ledger = ap (λ x. x.ledger) same in
         let holds = filled L is_room s e in
         let sound = keeps.sound s e (snapshot-only bytes (all-bytes bytes are-bytes) s e).1 L is_room.sound in
         record {
-          answer = ap (λ o. reply_or o (done [])) (told.is s e L is_room) ∙ same-reply L (restored L s) _;
-          room = subst (IsRoom after) (sym is) (record { size = holds.size ∙ is_room.size; holds = holds.contents; sound = subst Sound is sound });
+          answer = ap (λ x. x.reply) same;
+          room = subst (IsRoom after) ledger (record { size = holds.size ∙ is_room.size; holds = holds.contents; sound = subst Sound (sym ledger) sound });
         }
 
 -- ── a form of its own ──────────────────────────────────────────────────────────────────────────

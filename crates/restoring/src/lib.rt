@@ -19,18 +19,11 @@ const VERSION_FIELD: u8 = 4;
 fn restore_version(version: u64) -> Result<(), Refusal>
     ensures { refusal_in result ≡ restore_version version }
 {
-    if !big_endian::has_tag(version) {
+    if !big_endian::has_tag(version) || big_endian::fence_of(version) == 0 {
         return Err(Refusal::NegativeLedgerField(
             refusals::no_tenant(),
             VERSION_FIELD,
-            numbers::amount(version),
-        ));
-    }
-    if big_endian::fence_of(version) == 0 {
-        return Err(Refusal::NegativeLedgerField(
-            refusals::no_tenant(),
-            VERSION_FIELD,
-            numbers::amount(rules::M),
+            numbers::amount(version.min(rules::M)),
         ));
     }
     Ok(())
@@ -66,11 +59,7 @@ fn check(names: u64, bytes: &[u8], of_version: Result<(), Refusal>) -> Result<()
 }
 
 // Both forms, which differ in what they say of the version alone.
-fn restore_by(
-    room: &mut [u8],
-    bytes: &[u8],
-    of_version: Result<(), Refusal>,
-) -> Result<(), Refusal>
+fn restore_by(room: &mut [u8], bytes: &[u8], of_version: Result<(), Refusal>) -> Result<(), Refusal>
     requires { SoundRoom room.old × IsSnapshot bytes.now × Keeps bytes.now (refusal_in of_version) }
     ensures { Restores (restore_by (refusal_in of_version)) bytes.now room.old (answer_of carries_nothing result) room.new }
 {

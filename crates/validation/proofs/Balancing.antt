@@ -1,6 +1,6 @@
 -- The conservation of one row: one law for each answer, over its amounts and over what the totals of them are fitted to. Each walks the rule's checks to the
 -- one that decides.
-use mathlib.Core.Path.{◌≡◌, refl, sym, ap, ◌∙◌}
+use mathlib.Core.Path.{◌≡◌, sym, ap, ◌∙◌}
 use mathlib.Core.Logic.{◌≢◌}
 use mathlib.Core.Bool.{true, false, not}
 use mathlib.Core.Option.{none, some}

@@ -1,9 +1,9 @@
 -- Checks in their order, as code asks them: one that fails decides, and one that passes leaves what stands after it.
-use mathlib.Core.Path.{◌≡◌, refl, sym, ap, ◌∙◌}
+use mathlib.Core.Path.{◌≡◌, refl, ap}
 use mathlib.Core.Logic.{◌≢◌}
 use mathlib.Core.Bool.{Bool, true, false}
 use mathlib.Core.List.{[]}
-use mathlib.Core.Option.{Option, some}
+use mathlib.Core.Option.{Option, none, some}
 use lib.IntN.{ℤ}
 use Rattle.std.specs.Prelude.{Result, Ok, Err}
 use Rattle.rules.specs.AnswerNumbers.{Refusal, done}
@@ -24,14 +24,14 @@ module _ (fails : Bool) (refusal : Refusal) (later : Option Refusal) where
 
 -- ── a check that was made, and what is checked after it ────────────────────────────────────────
 
-module _ {A : Type 0} {r : Result A Told} (later : Option Refusal) where
-  pub refuses : {e : Told} → r ≡ Err e → and_then (refusal_in r) later ≡ some (refusal_of e)
+module _ {checked : Option Refusal} (later : Option Refusal) where
+  pub refuses : {e : Refusal} → some e ≡ checked → some e ≡ and_then checked later
   unfolding and_then
-  refuses is = ap (λ o. and_then (refusal_in o) later) is
+  refuses is = ap (λ o. and_then o later) is
 
-  pub passes_on : {x : A} → r ≡ Ok x → and_then (refusal_in r) later ≡ later
+  pub passes_on : none ≡ checked → later ≡ and_then checked later
   unfolding and_then
-  passes_on is = ap (λ o. and_then (refusal_in o) later) is
+  passes_on is = ap (λ o. and_then o later) is
 
 -- an answer that carries nothing, as the rules give it
 pub answered : {A : Type 0} (r : Result A Told) → answer_of carries_nothing r ≡ reply_or (refusal_in r) (done [])

@@ -1,18 +1,17 @@
 -- A pass that judges row by row, over what it says of a row: the first bad row decides, and a pass that finds none is done.
 use mathlib.Core.Path.{◌≡◌, refl, sym, ap, ◌∙◌}
 use mathlib.Core.List.{List, [], ◌∷◌, ◌++◌}
-use mathlib.Core.Option.{Option, none, some}
+use mathlib.Core.Option.{none, some}
 use Prim.Native.Nat.{ℕ, ◌+◌, ◌≤◌, ◌<◌}
 use lib.ListN.{length}
 use Rattle.std.specs.Prelude.{Result, Ok, Err}
-use Rattle.rules.specs.AnswerNumbers.{Refusal}
 use Rattle.rules.specs.SnapshotsMigrationCertificates.{Row, and_then, row_conservation, conservation, row_validation, rows_validation}
 use Rattle.big_endian.specs.Layout.{snapshot_header, row_amounts}
 use Rattle.snapshot_reader.specs.Standing.{OfSnapshot, RowStands, ShortNames, RowOf, Passed}
 use Rattle.snapshot_reader.proofs.Header.{header}
 use Rattle.snapshot_reader.proofs.Rows.{Ends, AtRow, start, at_row, advance, finished, row_here, row_of}
 use Rattle.refusals.specs.declared.Refusal.{Refusal as Told}
-use Rattle.refusals.specs.Answers.{refusal_of, refusal_in}
+use Rattle.refusals.specs.Answers.{refusal_of}
 use Rattle.names.specs.Names.{spelled, stored}
 use Rattle.names.proofs.Storing.{spelled-stored}
 use Rattle.refusals.specs.declared.tenant_name.TenantName.{TenantName}

@@ -10,5 +10,4 @@ restore_by-requires c =
 
 pub returns : goal.returns
 unfolding recovery_restore
-returns c =
-    let restored = c.restore_by in record { performs = by-its-form recovery_version _ c.version.ensures c.recovery_version.ensures restored.ensures.performs; form = restored.ensures.form }
+returns c = by-its-form recovery_version _ c.version.ensures c.recovery_version.ensures c.restore_by.ensures

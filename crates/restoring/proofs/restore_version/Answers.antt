@@ -1,45 +1,29 @@
--- `restoring::restore_version` meets its contract: what is carried is the version, at most M where it has no tag, or M, which a tag is above (Versions).
+-- `restoring::restore_version` meets its contract: the version is carried as an amount, so no more than M (Versions).
 use mathlib.Core.Path.{◌≡◌, sym, ap, ◌∙◌}
-use mathlib.Core.Bool.{true, false}
-use mathlib.Core.List.{[]}
+use mathlib.Core.Logic.{inl, inr}
 use mathlib.Core.Option.{some}
 use native.Mathlib.Omega.{arith}
-use borrow.Author.Tests.{not-true, not-false}
-use Rattle.rules.specs.RoomAndSoundLedger.{M, has_tag}
+use lib.IntN.{pos}
+use Rattle.rules.specs.RoomAndSoundLedger.{M}
 use Rattle.rules.specs.AnswerNumbers.{version_field, NegativeLedgerField}
-use Rattle.restoring.proofs.Versions.{untagged-small, untagged-carried, zero-fence-carried, restores}
-use Rattle.restoring.proofs.restore_version.Lts as place
-use Rattle.restoring.proofs.restore_version.Tie as tie
+use Rattle.names.specs.Names.{spelled}
+use Rattle.restoring.proofs.Versions.{carried, restores}
 use Rattle.restoring.proofs.restore_version.Goals as goal
-
-abbrev Then-not-has_tag : Type 0
-Then-not-has_tag = place.Then1 tie.the-claims tie.handed_pre tie.handed_post
-
-abbrev Else-not-has_tag : Type 0
-Else-not-has_tag = place.Else1 tie.the-claims tie.handed_pre tie.handed_post
-
-untagged : (c : Then-not-has_tag) → has_tag c.args.version ≡ false
-untagged c = sym c.has_tag.ensures ∙ not-true _ c.if-not-has_tag.true-raw
-
-tag : (c : Else-not-has_tag) → has_tag c.args.version ≡ true
-tag c = sym c.has_tag.ensures ∙ not-false _ c.if-not-has_tag.false-raw
+use Rattle.restoring.proofs.restore_version.Goals.{then-not-has_tag-via-then-not-has_tag, then-not-has_tag-via-else-not-has_tag+then-fence_of-eq0}
 
 pub amount-requires : goal.amount-requires
-amount-requires c = untagged-small _ c.ranges.version.fits (untagged c)
+unfolding M
+amount-requires c = omega arith
 
 pub returns-then-not-has_tag : goal.returns-then-not-has_tag
+unfolding M
 returns-then-not-has_tag c =
-    ap (λ z. some (NegativeLedgerField [] version_field z)) c.amount.ensures ∙ sym (untagged-carried _ c.ranges.version.fits (untagged c.before))
-
-pub amount-requires-then-fence_of-eq0 : goal.amount-requires-then-fence_of-eq0
-unfolding M
-amount-requires-then-fence_of-eq0 c = omega arith
-
-pub returns-then-fence_of-eq0 : goal.returns-then-fence_of-eq0
-unfolding M
-returns-then-fence_of-eq0 c =
-    ap (λ z. some (NegativeLedgerField [] version_field z)) c.amount-then-fence_of-eq0.ensures ∙ sym (zero-fence-carried _ (tag c.before.before.before) (sym c.fence_of.ensures ∙ c.if-fence_of-eq0.true))
+    (λ i. some (NegativeLedgerField (spelled (c.no_tenant.ensures i)) version_field ((c.amount.ensures ∙ ap pos c.min.ensures) i)))
+    ∙ carried c.args.version
+    (elim c.then-not-has_tag.branch [
+      | then-not-has_tag-via-then-not-has_tag w ↦ inl (sym w.if-not-has_tag.ensures)
+      | then-not-has_tag-via-else-not-has_tag+then-fence_of-eq0 w ↦ inr (sym w.fence_of.ensures ∙ w.if-fence_of-eq0.true)
+    ])
 
 pub returns : goal.returns
-returns c =
-    sym (restores _ (tag c.before.before) (λ zero-fence. c.if-fence_of-eq0.false (c.fence_of.ensures ∙ zero-fence)))
+returns c = restores c.args.version (sym c.if-not-has_tag.ensures) (λ zero-fence. c.if-fence_of-eq0.false (c.fence_of.ensures ∙ zero-fence))

@@ -1,8 +1,6 @@
 -- `validation::balance_of` meets its contract: the total of two words is the exact sum, fitted or not. Each return is one law of Balancing.
 use mathlib.Core.Path.{◌≡◌, sym, ap, ◌∙◌}
 use mathlib.Core.Bool.{true, false}
-use lib.IntN.{ℤ, pos}
-use lib.Signed.{lt_z}
 use mir.Syntax.{w64}
 use mir.Val.{SFits, of_z}
 use Rattle.std.specs.Prelude.{Some, None, Err}

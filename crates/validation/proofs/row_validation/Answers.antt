@@ -11,7 +11,6 @@ use Rattle.std.proofs.Common.{rules}
 use Rattle.std.proofs.lemmas.Int.{ints}
 use Rattle.rules.specs.SnapshotsMigrationCertificates.{is_negative}
 use Rattle.validation.specs.Judgement.{seen_in}
-use Rattle.validation.proofs.Balancing.{same_bits}
 use Rattle.validation.proofs.Validating.{duplicate, ghost, remaining-negative, initial-negative, committed-negative, valid}
 use Rattle.validation.proofs.row_validation.Goals as goal
 

@@ -1,5 +1,4 @@
 -- `validation::rows_validation` meets its contract: before the first row no name is seen.
-use native.Mathlib.Omega.{arith}
 use Rattle.validation.specs.Judgement.{seen_in}
 use Rattle.validation.proofs.rows_validation.Goals as goal
 

@@ -23,12 +23,10 @@ unfolding validation
 returns-in_err-rows_validation c s e =
     let none-live : s.active ≤ 0 = omega (arith, c.active-active.ensures s e, c.if-active-gt0.false) in
     let is : c.from_residual.result ≡ Err c.in_err-rows_validation.field-0.0 = grind arith in
-    ap refusal_in is
-    ∙ sym (goes_on _ _ _ (le-ltb 0 s.active none-live) ∙ ap (λ o. and_then o (conservation s.rows)) (sym (c.rows_validation.ensures s e)) ∙ refuses _ c.in_err-rows_validation.was)
+    ap refusal_in is ∙ refuses _ (c.in_err-rows_validation.ensures s e) ∙ sym (goes_on _ _ _ (le-ltb 0 s.active none-live))
 
 pub returns : goal.returns
 unfolding validation
 returns c s e =
     let none-live : s.active ≤ 0 = omega (arith, c.active-active.ensures s e, c.if-active-gt0.false) in
-    c.conservation.ensures s e
-    ∙ sym (goes_on _ _ _ (le-ltb 0 s.active none-live) ∙ ap (λ o. and_then o (conservation s.rows)) (sym (c.rows_validation.ensures s e)) ∙ passes_on _ c.in_ok-rows_validation.was)
+    c.conservation.ensures s e ∙ passes_on _ (c.in_ok-rows_validation.ensures s e) ∙ sym (goes_on _ _ _ (le-ltb 0 s.active none-live))
