@@ -10,6 +10,7 @@ use native.Mathlib.Omega.{arith}
 use lib.IntN.{ℤ}
 use lib.ListN.{length, take, drop, length-append}
 use lib.Seq.{take_at}
+use Rattle.std.specs.Prelude.{Result, Err}
 use Rattle.rules.specs.Lists.{first, All}
 use Rattle.rules.specs.RoomAndSoundLedger.{IsByte}
 use Rattle.rules.specs.AnswerNumbers.{Value, Identifier, Reply, reply}
@@ -23,8 +24,8 @@ use Rattle.rules.proofs.SnapshotBytes.{snapshot-only, longest}
 use Rattle.snapshot_reader.specs.Standing.{ShortNames}
 use Rattle.answer_bytes.specs.Writing.{WritesReply}
 use Rattle.recorder.specs.Recording.{Records, text_of, RecordsOperation, word_behind}
-use Rattle.recorder.specs.declared.Recorded.{Recorded}
-use Rattle.recorder.specs.declared.Recorded.TheVariants.{NameTooLong, BadFrame}
+use Rattle.refusals.specs.declared.Refusal.{Refusal}
+use Rattle.refusals.specs.declared.Refusal.TheVariants.{NameTooLong, BadFrame}
 
 -- ── the head ───────────────────────────────────────────────────────────────────────────────────
 
@@ -62,7 +63,7 @@ writing number fields long = some (record { number = number; fields = fields; is
 
 module _ (as_line : Bool) (code : ℕ) (p : Parts) (room : List ℕ) where
   -- the operation's bytes are those of the head and the tail
-  pub written : (fields : List ℕ) (long : Bool) (values : List Value) (head tail : List ℕ) {after : List ℕ} {r : Recorded}
+  pub written : (fields : List ℕ) (long : Bool) (values : List Value) (head tail : List ℕ) {after : List ℕ} {r : Result ℕ Refusal}
       → frame_of_some (operation_of_parts code p) ≡ writing code fields long → long ≡ false → head ≡ reply_bytes (reply code values) → flat_map value_bytes values ++ tail ≡ fields
       → Records (fitting (text_of as_line (head ++ tail)) room) after r → RecordsOperation as_line code p room after r
   unfolding record_operation recording bytes_in reply_bytes
@@ -70,16 +71,16 @@ module _ (as_line : Bool) (code : ℕ) (p : Parts) (room : List ℕ) where
       let same : head ++ tail ≡ bytes_of 1 code ++ fields = ap (λ l. l ++ tail) is ∙ append_assoc (bytes_of 1 code) (flat_map value_bytes values) tail ∙ ap (λ l. bytes_of 1 code ++ l) all in
       rw (frame, short) (subst (λ l. Records (fitting (text_of as_line l) room) after r) same h)
 
-  pub too_long : (fields : List ℕ) (long : Bool) → frame_of_some (operation_of_parts code p) ≡ writing code fields long → long ≡ true → RecordsOperation as_line code p room room NameTooLong
+  pub too_long : (fields : List ℕ) (long : Bool) → frame_of_some (operation_of_parts code p) ≡ writing code fields long → long ≡ true → RecordsOperation as_line code p room room (Err NameTooLong)
   unfolding record_operation recording
   too_long fields long frame is = rw (frame, is) (record { reply = refl; room = refl })
 
-  pub no-operation : frame_of_some (operation_of_parts code p) ≡ none → RecordsOperation as_line code p room room BadFrame
+  pub no-operation : frame_of_some (operation_of_parts code p) ≡ none → RecordsOperation as_line code p room room (Err BadFrame)
   unfolding record_operation recording
   no-operation frame = rw frame (record { reply = refl; room = refl })
 
 -- the operation of a code that is known
-pub at_code : (as_line : Bool) (p : Parts) (room : List ℕ) {code known : ℕ} {after : List ℕ} {r : Recorded} → code ≡ known → RecordsOperation as_line known p room after r → RecordsOperation as_line code p room after r
+pub at_code : (as_line : Bool) (p : Parts) (room : List ℕ) {code known : ℕ} {after : List ℕ} {r : Result ℕ Refusal} → code ≡ known → RecordsOperation as_line known p room after r → RecordsOperation as_line code p room after r
 at_code as_line p room {after} {r} e h = subst (λ n. RecordsOperation as_line n p room after r) (sym e) h
 
 pub fence-behind : (code number : ℕ) (amount : ℤ) → code ≡ 10 → word_behind code number amount ≡ number

@@ -218,7 +218,7 @@ fn read_carried(shape: Shape, bytes: &[u8]) -> Option<Values>
 }
 
 fn store(number: u8, values: Values, words: &mut [u64; MOST_WORDS])
-    ensures { words.new ≡ number ∷ values.entry }
+    ensures { words.new ≡ number ∷ values }
 {
     words[0] = number as u64;
     words[1..].copy_from_slice(&values);
