@@ -36,12 +36,6 @@ no_row code h = first-none (λ (a : Answers). eqb code a.code) answer_table
 pub no-forms : (code : ℕ) → (1 ≤ code → 14 < code) → forms_at code ≡ []
 no-forms code h = ap forms_in (no_row code h)
 
--- a number that is none of those that carry something
-pub carries-nothing : (number : ℕ) → All (λ (r : Reply). number ≡ r.number → ⊥) carrying → carried_by number ≡ []
-unfolding carried_by
-carries-nothing number other = ap carried_in (first-none (λ (r : Reply). eqb number r.number) carrying
-    (all_map (λ (r : Reply). number ≡ r.number → ⊥) (λ r. eqb number r.number ≡ false) (λ r. ne_eqb number r.number) carrying other))
-
 -- no answer has a number above 24
 numbers-end : All (λ (a : Answers). All (λ (r : Reply). r.number ≤ 24) a.forms) answer_table
 unfolding answer_table
