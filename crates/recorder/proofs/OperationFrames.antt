@@ -10,7 +10,7 @@ use native.Mathlib.Omega.{arith}
 use lib.IntN.{ℤ}
 use lib.ListN.{length, take, drop, length-append}
 use lib.Seq.{take_at}
-use Rattle.std.specs.Prelude.{Result, Err}
+use Rattle.std.specs.Prelude.{Result, Ok, Err}
 use Rattle.rules.specs.Lists.{first, All}
 use Rattle.rules.specs.RoomAndSoundLedger.{IsByte}
 use Rattle.rules.specs.AnswerNumbers.{Value, Identifier, Reply, reply}
@@ -21,7 +21,8 @@ use Rattle.rules.specs.Recorder.{Written, bytes_in, with_parts, operation_of_par
 use Rattle.rules.proofs.Fields.{no_code}
 use Rattle.rules.proofs.Numbers.{bytes-length}
 use Rattle.rules.proofs.SnapshotBytes.{snapshot-only, longest}
-use Rattle.snapshot_reader.specs.Standing.{ShortNames}
+use Rattle.snapshot_reader.specs.Standing.{checked_as, ShortNames}
+use Rattle.snapshot_reader.proofs.Checking.{Says, says}
 use Rattle.answer_bytes.specs.Writing.{WritesReply}
 use Rattle.recorder.specs.Recording.{Records, text_of, RecordsOperation, word_behind}
 use Rattle.refusals.specs.declared.Refusal.{Refusal}
@@ -139,6 +140,17 @@ word-frame code (inl c) p none e = rw (c, e)
 word-frame code (inl c) p (some s) e = rw (c, e)
 word-frame code (inr c) p none e = rw (c, e)
 word-frame code (inr c) p (some s) e = rw (c, e)
+
+-- bytes that the check has refused are no snapshot, or one with a name that is too long
+pub refused : (as_line : Bool) (code : ℕ) (p : Parts) (room front : List ℕ) {given : Result (Unit {0}) Refusal} {r : Result ℕ Refusal} {e : Refusal}
+    → ((o : Option Snapshot) → snapshot_of_bytes p.part ≡ o → frame_of_some (operation_of_parts code p) ≡ behind code front o)
+    → given ≡ checked_as (snapshot_of_bytes p.part) → given ≡ Err e → r ≡ Err e → RecordsOperation as_line code p room room r
+refused as_line code p room front {r = r} {e = e} frame is told answered = subst (RecordsOperation as_line code p room room) (sym answered) (of-refusal (says p.part is told))
+  where
+    of-refusal : Says p.part (Err e) → RecordsOperation as_line code p room room (Err e)
+    of-refusal (inl (bad, none_read)) = subst (λ x. RecordsOperation as_line code p room room (Err x)) (sym bad) (no-operation as_line code p room (frame none none_read))
+    of-refusal (inr (long, name)) =
+        subst (λ x. RecordsOperation as_line code p room room (Err x)) (sym long) (too_long as_line code p room _ _ (frame (some name.snapshot) name.is_read) name.long)
 
 -- a snapshot that passes is spelled as it stands, and no longer than a frame has room for
 pub snapshot-stands : (part : List ℕ) → All IsByte part → (h : ShortNames part) → (snapshot_bytes h.snapshot ≡ part) × (length part ≤ longest_snapshot)

@@ -119,6 +119,7 @@ fn write(
 
 // The operation's line, without a line feed, at the front of the output: 23 for a code that is none or a part that is no snapshot, 19 for a name of more than 24
 // bytes, in a snapshot too, and 22 where it does not fit; a refusal leaves the output as it is.
+#[tactic(auto, unfolding(rules::specs::Recorder::line_in))]
 pub fn write_operation(
     code: u8,
     number: u64,
