@@ -31,36 +31,15 @@ use Rattle.snapshot_reader.specs.Standing.{is_read}
 use Rattle.recorder.specs.declared.answer_table.Shape.{Shape}
 use Rattle.recorder.specs.declared.answer_table.Shape.TheVariants as shape
 use Rattle.recorder.specs.Shapes.{Kind, a_word, a_byte, a_flag, a_name, a_snapshot, kind_of, kinds_of, kinds_in}
+use Rattle.recorder.specs.Recording.{Records}
 use Rattle.recorder.specs.AnswerWords.{is_bad, is_long, bad_from, long_is_in, judged_as, head_of, tail_of}
 
 -- ── what passes ────────────────────────────────────────────────────────────────────────────────
 
-pub both_false : (bad long : Bool) → cond bad (Err BadFrame) (cond long (Err NameTooLong) (Ok tt)) ≡ Ok tt → (bad ≡ false) × (long ≡ false)
+both_false : (bad long : Bool) → ◌≡◌ {A = Result (Unit {0}) Refusal} (cond bad (Err BadFrame) (cond long (Err NameTooLong) (Ok tt))) (Ok tt) → (bad ≡ false) × (long ≡ false)
 both_false true long e = absurd (let z : ◌≡◌ {A = ℕ} 0 1 = cc in omega arith)
 both_false false true e = absurd (let z : ◌≡◌ {A = ℕ} 0 1 = cc in omega arith)
 both_false false false e = (refl, refl)
-
-module _ (words part : List ℕ) where
-  pub short-name : (ks : List Kind) → judged_as (a_name ∷ ks) words part ≡ Ok tt → length part ≤ longest_name
-  short-name ks e =
-      let (_, long) = both_false (bad_from (a_name ∷ ks) 1 words part) (long_is_in (a_name ∷ ks) part) e in
-      ltb-false longest_name (length part) (or-false (ltb longest_name (length part)) (long_is_in ks part) long).0
-
-  pub small-field : judged_as (kinds_of shape.NamedField) words part ≡ Ok tt → get_or words 2 0 ≤ 255
-  small-field e =
-      let (bad, _) = both_false (ltb 255 (get_or words 2 0) || false) (long_is_in (a_name ∷ a_byte ∷ a_word ∷ []) part) e in
-      ltb-false 255 (get_or words 2 0) (or-false (ltb 255 (get_or words 2 0)) false bad).0
-
-  pub certificate-flags : judged_as (kinds_of shape.Certificate) words part ≡ Ok tt → (get_or words 4 0 ≤ 1) × (get_or words 7 0 ≤ 1)
-  certificate-flags e =
-      let (bad, _) = both_false (ltb 1 (get_or words 4 0) || (ltb 1 (get_or words 7 0) || false)) false e in
-      let (balanced, others) = or-false (ltb 1 (get_or words 4 0)) (ltb 1 (get_or words 7 0) || false) bad in
-      (ltb-false 1 (get_or words 4 0) balanced, ltb-false 1 (get_or words 7 0) (or-false (ltb 1 (get_or words 7 0)) false others).0)
-
-  pub proof-flag : judged_as (kinds_of shape.Proof) words part ≡ Ok tt → get_or words 6 0 ≤ 1
-  proof-flag e =
-      let (bad, _) = both_false (ltb 1 (get_or words 6 0) || false) false e in
-      ltb-false 1 (get_or words 6 0) (or-false (ltb 1 (get_or words 6 0)) false bad).0
 
 -- ── a value ────────────────────────────────────────────────────────────────────────────────────
 
@@ -276,7 +255,7 @@ no-form code [] part room some-there is = absurd (omega arith)
 no-form code (number ∷ rest) part room some-there is = ap (λ o. recording line_in (Option.map answer_written (form_filled o rest part)) room) is
 
 module _ (code : ℕ) (words part room : List ℕ) (number : ℕ) (first_word : number ≡ get_or words 0 0) where
-  pub judged-is : ((i : ℕ) → IsWord (get_or words i 0)) → All IsByte part → length words ≡ 9 → (s : Shape) → some (kinds_of s) ≡ kinds_in (form_of code number)
+  judged-is : ((i : ℕ) → IsWord (get_or words i 0)) → All IsByte part → length words ≡ 9 → (s : Shape) → some (kinds_of s) ≡ kinds_in (form_of code number)
       → record_answer line_in code words part room
       ≡ outcome (judged_as (kinds_of s) words part) (line_of_bytes (reply_bytes (head_of (kinds_of s) number words part) ++ tail_of (kinds_of s) part)) room
   judged-is fit bytes_fit nine s is =
@@ -285,9 +264,28 @@ module _ (code : ℕ) (words part room : List ℕ) (number : ℕ) (first_word : 
       ∙ ap (λ n. outcome (judged_as (kinds_of s) words part) (line_with n (kinds_of s) words part) room) (sym first_word)
       ∙ ap (λ bs. outcome (judged_as (kinds_of s) words part) (line_of_bytes bs) room) (sym (joined s number words part))
 
+  -- by what judging has told
+  module _ (fit : (i : ℕ) → IsWord (get_or words i 0)) (bytes_fit : All IsByte part) (nine : length words ≡ 9) (s : Shape) (is : some (kinds_of s) ≡ kinds_in (form_of code number))
+      {judged : Result (Unit {0}) Refusal} (judged_is : judged ≡ judged_as (kinds_of s) words part) where
+    abbrev text : List ℕ
+    text = line_of_bytes (reply_bytes (head_of (kinds_of s) number words part) ++ tail_of (kinds_of s) part)
+
+    rule-is : {told : Result (Unit {0}) Refusal} → judged ≡ told → record_answer line_in code words part room ≡ outcome told text room
+    rule-is e = judged-is fit bytes_fit nine s is ∙ ap (λ j. outcome j text room) (sym judged_is ∙ e)
+
+    pub refused : {e : Refusal} {r : Result ℕ Refusal} → judged ≡ Err e → r ≡ Err e → Records (record_answer line_in code words part room) room r
+    refused told answered = rw (rule-is told, answered) (record { reply = refl; room = refl })
+
+    pub written : {x : Unit {0}} {after : List ℕ} {r : Result ℕ Refusal} → judged ≡ Ok x → Records (fitting text room) after r → Records (record_answer line_in code words part room) after r
+    written {after = after} {r = r} told records = subst (λ rule. Records rule after r) (sym (rule-is told)) records
+
   -- a number that the operation is never answered with
-  pub none_is : 1 ≤ length words → form_of code number ≡ none → record_answer line_in code words part room ≡ unwritten numbers.BadFrame room
-  none_is some-there is = no-form code words part room some-there (ap (form_of code) (sym first_word) ∙ is)
+  pub none_is : 1 ≤ length words → form_of code number ≡ none → Records (record_answer line_in code words part room) room (Err BadFrame)
+  none_is some-there is = rw (no-form code words part room some-there (ap (form_of code) (sym first_word) ∙ is)) (record { reply = refl; room = refl })
+
+pub formless : (o : Option Reply) → none ≡ kinds_in o → o ≡ none
+formless none e = refl
+formless (some form) e = absurd (let z : ◌≡◌ {A = ℕ} 0 1 = cc in omega arith)
 
 -- ── head and tail as they stand ────────────────────────────────────────────────────────────────
 
