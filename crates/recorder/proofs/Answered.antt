@@ -76,6 +76,9 @@ module _ (code : ℕ) (bs : List ℕ) (h : 1 ≤ length bs) where
           ∙ ap words_in (sym (by_values form (drop 1 bs))))
           refl e
 
+pub absent : (o : Option Reply) (before : List ℕ) → o ≡ none → ReadsAnswer o before before (Err BadFrame)
+absent o before e = rw e (record { answer = refl; words = refl })
+
 pub no_answer : (o : Option Reply) (before : List ℕ) → none ≡ words_in o → ReadsAnswer o before before (Err BadFrame)
 no_answer none before e = record { answer = refl; words = refl }
 no_answer (some a) before e = absurd (let z : ◌≡◌ {A = ℕ} 0 1 = cc in omega arith)

@@ -90,7 +90,7 @@ record Passed (o : Option Snapshot) : Type 0 where
 passed : (o : Option Snapshot) → checked_as o ≡ Ok tt → Passed o
 passed none e = impossible (cc)
 passed (some s) e = by_bool (λ long. has_long_name s.rows ≡ long → cond long (Err NameTooLong) (Ok tt) ≡ Ok tt → Passed (some s)) (has_long_name s.rows)
-    (λ _ _ q. impossible (cc))
+    (λ _ _ (q : ◌≡◌ {A = Result (Unit {0}) Refusal} (Err NameTooLong) (Ok tt)). impossible (cc))
     (λ _ t _. record { snapshot = s; is_read = refl; short = t })
     refl e
 
