@@ -12,7 +12,7 @@ use lib.Dec.{ltb, eqb}
 use lib.ListN.{length, take, drop, get_or, length-drop, length-map}
 use lib.Seq.{drop-cons, take-length}
 use Rattle.rules.specs.Lists.{any, All}
-use Rattle.rules.specs.RoomAndSoundLedger.{longest_name, IsByte}
+use Rattle.rules.specs.RoomAndSoundLedger.{IsByte}
 use Rattle.rules.specs.AnswerNumbers.{Value, Amount, Identifier, Version, Fence, Count, Field, YesOrNo, TheName, SnapshotBytes, Reply, reply}
 use Rattle.rules.specs.AnswerNumbers as numbers
 use Rattle.rules.specs.SnapshotsMigrationCertificates.{Snapshot, bytes_of, signed, name_bytes, snapshot_bytes, snapshot_of_bytes, has_long_name}

@@ -1,5 +1,5 @@
 -- From the values of an answer to the answer: the rules read its number first and pick the form by it, and what they read along the form is the answer's (`answered`).
-use mathlib.Core.Path.{◌≡◌, refl, sym, ◌∙◌, ap, subst}
+use mathlib.Core.Path.{◌≡◌, refl, sym, ◌∙◌, ap}
 use mathlib.Core.Bool.{cond}
 use mathlib.Core.List.{List, [], ◌∷◌, ◌++◌, map}
 use mathlib.Core.Option

@@ -7,15 +7,14 @@ use mathlib.Core.List.{List, [], ◌∷◌, ◌++◌, flat_map, append_assoc, ap
 use mathlib.Core.Option.{Option, none, some}
 use Prim.Native.Nat.{ℕ, zero, suc, ◌≤◌, ◌<◌}
 use native.Mathlib.Omega.{arith}
-use lib.IntN.{ℤ}
 use lib.ListN.{length, take, drop, length-append}
 use lib.Seq.{take_at}
-use Rattle.std.specs.Prelude.{Result, Ok, Err}
+use Rattle.std.specs.Prelude.{Result, Err}
 use Rattle.rules.specs.Lists.{first, All}
 use Rattle.rules.specs.RoomAndSoundLedger.{IsByte}
 use Rattle.rules.specs.AnswerNumbers.{Value, Identifier, Reply, reply}
 use Rattle.rules.specs.AccountRules.{is_too_long}
-use Rattle.rules.specs.SnapshotsMigrationCertificates.{Snapshot, bytes_of, amount_bytes, name_bytes, snapshot_bytes, snapshot_of_bytes, has_long_name, twos_complement}
+use Rattle.rules.specs.SnapshotsMigrationCertificates.{Snapshot, bytes_of, amount_bytes, name_bytes, snapshot_bytes, snapshot_of_bytes, has_long_name}
 use Rattle.rules.specs.Frames.{Parts, longest_snapshot, codes, value_bytes, reply_bytes}
 use Rattle.rules.specs.Recorder.{Written, bytes_in, with_parts, operation_of_parts, frame_of_some, fitting, recording, record_operation}
 use Rattle.rules.proofs.Fields.{no_code}
@@ -79,16 +78,6 @@ module _ (as_line : Bool) (code : ℕ) (p : Parts) (room : List ℕ) where
   pub no-operation : frame_of_some (operation_of_parts code p) ≡ none → RecordsOperation as_line code p room room (Err BadFrame)
   unfolding record_operation recording
   no-operation frame = rw frame (record { reply = refl; room = refl })
-
--- the operation of a code that is known
-pub at_code : (as_line : Bool) (p : Parts) (room : List ℕ) {code known : ℕ} {after : List ℕ} {r : Result ℕ Refusal} → code ≡ known → RecordsOperation as_line known p room after r → RecordsOperation as_line code p room after r
-at_code as_line p room {after} {r} e h = subst (λ n. RecordsOperation as_line n p room after r) (sym e) h
-
-pub fence-behind : (code number : ℕ) (amount : ℤ) → code ≡ 10 → word_behind code number amount ≡ number
-fence-behind code number amount e = rw e
-
-pub since-behind : (code number : ℕ) (amount : ℤ) {word : ℕ} → code ≡ 12 → word ≡ twos_complement amount → word_behind code number amount ≡ word
-since-behind code number amount e is = rw e (sym is)
 
 -- ── the list of operations at a code ───────────────────────────────────────────────────────────
 

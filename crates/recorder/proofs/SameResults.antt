@@ -10,7 +10,7 @@ use lib.Dec.{eqb, ltb}
 use lib.ListN.{length}
 use Rattle.std.specs.Prelude.{Result, Ok, Err}
 use Rattle.rules.specs.AnswerNumbers.{Value, Reply}
-use Rattle.rules.specs.Recorder.{Written, fitting, recording, word_of, answer_of_line}
+use Rattle.rules.specs.Recorder.{Written, Recording, fitting, recording, word_of, answer_of_line}
 use Rattle.rules.proofs.Tests.{by-test, less-or-not, true-false}
 use Rattle.rules.proofs.Values.{beside}
 use Rattle.digits.proofs.Decoding.{same-front}
@@ -28,12 +28,12 @@ is_told n = eqb n 0 || (eqb n 19 || (eqb n 22 || eqb n 23))
 
 fitting-told : (text room : List ℕ) → is_told (fitting text room).reply.number ≡ true
 unfolding fitting
-fitting-told text room = by-test (λ rule. is_told rule.reply.number ≡ true) (ltb (length room) (length text)) (λ _. refl) (λ _. refl)
+fitting-told text room = by-test {A = Recording} (λ rule. is_told rule.reply.number ≡ true) (ltb (length room) (length text)) (λ _. refl) (λ _. refl)
 
 recording-told : (text : Written → List ℕ) (o : Option Written) (room : List ℕ) → is_told (recording text o room).reply.number ≡ true
 unfolding recording
 recording-told text none room = refl
-recording-told text (some w) room = by-test (λ rule. is_told rule.reply.number ≡ true) w.is_long (λ _. refl) (λ _. fitting-told (text w) room)
+recording-told text (some w) room = by-test {A = Recording} (λ rule. is_told rule.reply.number ≡ true) w.is_long (λ _. refl) (λ _. fitting-told (text w) room)
 
 abbrev count-in : List Value → ℕ
 count-in [] = 0

@@ -11,8 +11,8 @@ ghost use Rattle.recorder.specs.Recording.{Records};
 ghost use Rattle.recorder.specs.Shapes.{kinds_of};
 ghost use Rattle.recorder.specs.AnswerWords.{judged_as, head_of, tail_of, Writable};
 
-use crate::answer_table::{LAST_NUMBER, Shape, shape_of};
 use crate::MOST_WORDS;
+use crate::answer_table::{LAST_NUMBER, Shape, shape_of};
 use answer_bytes::{
     LONGEST_OTHER_ANSWER, write_named, write_named_field, write_named_word, write_number,
     write_three_words, write_two_words, write_word,
@@ -162,7 +162,12 @@ fn number_in(words: &[u64]) -> u64
     words[0]
 }
 
-pub fn write_answer(code: u8, words: &[u64; MOST_WORDS], part: &[u8], output: &mut [u8]) -> Result<usize, Refusal>
+pub fn write_answer(
+    code: u8,
+    words: &[u64; MOST_WORDS],
+    part: &[u8],
+    output: &mut [u8],
+) -> Result<usize, Refusal>
     ensures { Records (record_answer line_in code words.now part.now output.old) output.new result }
 {
     let number = number_in(words);

@@ -66,7 +66,12 @@ fn write_alone(as_line: bool, code: u8, part: &[u8], output: &mut [u8]) -> Resul
 }
 
 // 08, 09 and 0e: both restores, and the conservation status.
-fn write_snapshot(as_line: bool, code: u8, snapshot: &[u8], output: &mut [u8]) -> Result<usize, Refusal>
+fn write_snapshot(
+    as_line: bool,
+    code: u8,
+    snapshot: &[u8],
+    output: &mut [u8],
+) -> Result<usize, Refusal>
     requires { (code ≡ 8) ⊎ (code ≡ 9) ⊎ (code ≡ 14) }
     ensures { (number : ℕ) (amount : ℤ) → RecordsOperation as_line code (parts number amount snapshot.now)
         output.old output.new result }

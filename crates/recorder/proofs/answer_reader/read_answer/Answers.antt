@@ -1,8 +1,6 @@
 -- `recorder::answer_reader::read_answer`: the lent bytes are too few, or the line is decoded into them, and then AnswerLine says what it comes to: less than a line, or what
 -- `read_answer_bytes` has read of them.
-use mathlib.Core.Path.{refl, sym}
 use native.Mathlib.Omega.{arith}
-use lib.Seq.{length-take-le}
 use Rattle.recorder.proofs.AnswerLine.{broken, decoded}
 use Rattle.recorder.proofs.answer_reader.read_answer.Goals as goal
 

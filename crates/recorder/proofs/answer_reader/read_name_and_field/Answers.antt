@@ -5,13 +5,12 @@ use mathlib.Core.List.{List, [], ◌∷◌}
 use mathlib.Core.Option.{some, map}
 use Prim.Native.Nat.{ℕ, ◌+◌, ◌-◌, ◌≤◌}
 use native.Mathlib.Omega.{arith}
-use borrow.Author.Rules.{rules}
 use borrow.Author.Tests.{eq-eqb, le-ltb}
 use lib.ListN.{length, take, drop, get_or}
 use Rattle.rules.specs.RoomAndSoundLedger.{longest_name}
 use Rattle.rules.specs.SnapshotsMigrationCertificates.{number_of}
 use Rattle.recorder.specs.Shapes.{Kind, a_word, a_byte, a_name}
-use Rattle.recorder.specs.Reading.{filled, values_in, Carries}
+use Rattle.recorder.specs.Reading.{filled, values_in}
 use Rattle.recorder.proofs.Places.{values_at, carries, nameless, other-size, alike}
 use Rattle.recorder.proofs.answer_reader.read_name_and_field.Goals as goal
 

@@ -1,17 +1,11 @@
 -- `answer_writer::write_answer`: what writing comes to is the outcome of the answer as it was judged (`judged-is` of AnswerWords.antt), so each way out is its case; a number above
 -- 24 has no form (`beyond` of AnswerTable.antt).
-use mathlib.Core.Path.{◌≡◌, refl, sym, ◌∙◌, ap, subst}
-use mathlib.Core.List.{◌++◌}
-use mathlib.Core.Option.{none}
-use Prim.Native.Nat.{ℕ}
+use mathlib.Core.Path.{◌≡◌, sym, ◌∙◌}
 use native.Mathlib.Omega.{arith}
 use borrow.Author.Rules.{rules}
-use Rattle.std.specs.Prelude.{Result, Ok, Err}
-use Rattle.rules.specs.Frames.{reply_bytes, line_of_bytes}
-use Rattle.rules.specs.Recorder.{Recording, line_in, record_answer, form_of}
+use Rattle.std.specs.Prelude.{Err}
 use Rattle.numbers.proofs.Bytes.{all-bytes}
-use Rattle.recorder.specs.Shapes.{kinds_of, kinds_in, kinds_behind}
-use Rattle.recorder.specs.AnswerWords.{head_of, tail_of}
+use Rattle.recorder.specs.Shapes.{kinds_of}
 use Rattle.recorder.proofs.AnswerTable.{beyond, many-is-done}
 use Rattle.recorder.proofs.AnswerWords.{refused, written, none_is, formless}
 use Rattle.recorder.proofs.answer_writer.write_answer.Goals as goal

@@ -1,5 +1,5 @@
 -- `recorder::operations::write_snapshot`: the snapshot is judged once (`says`) and stands behind the code as it is (`snapshot-frame`).
-use mathlib.Core.Path.{◌≡◌, refl, sym}
+use mathlib.Core.Path.{◌≡◌, sym}
 use mathlib.Core.List.{[], flat_map}
 use mathlib.Core.Option.{some}
 use native.Mathlib.Omega.{arith}
