@@ -254,15 +254,13 @@ unfolding record_answer recording answer_of_words
 no-form code [] part room some-there is = absurd (omega arith)
 no-form code (number ∷ rest) part room some-there is = ap (λ o. recording line_in (Option.map answer_written (form_filled o rest part)) room) is
 
-module _ (code : ℕ) (words part room : List ℕ) (number : ℕ) (first_word : number ≡ get_or words 0 0) where
-  judged-is : ((i : ℕ) → IsWord (get_or words i 0)) → All IsByte part → length words ≡ 9 → (s : Shape) → some (kinds_of s) ≡ kinds_in (form_of code number)
-      → record_answer line_in code words part room
-      ≡ outcome (judged_as (kinds_of s) words part) (line_of_bytes (reply_bytes (head_of (kinds_of s) number words part) ++ tail_of (kinds_of s) part)) room
-  judged-is fit bytes_fit nine s is =
-      let kinds : some (kinds_of s) ≡ kinds_in (form_of code (get_or words 0 0)) = is ∙ ap (λ n. kinds_in (form_of code n)) first_word in
-      answer-is code words part room fit bytes_fit (kinds_of s) kinds (omega (arith, few s))
-      ∙ ap (λ n. outcome (judged_as (kinds_of s) words part) (line_with n (kinds_of s) words part) room) (sym first_word)
-      ∙ ap (λ bs. outcome (judged_as (kinds_of s) words part) (line_of_bytes bs) room) (sym (joined s number words part))
+module _ (code : ℕ) (words part room : List ℕ) where
+  abbrev number : ℕ
+  number = get_or words 0 0
+
+  -- a number that the operation is never answered with
+  pub none_is : 1 ≤ length words → form_of code number ≡ none → Records (record_answer line_in code words part room) room (Err BadFrame)
+  none_is some-there is = rw (no-form code words part room some-there is) (record { reply = refl; room = refl })
 
   -- by what judging has told
   module _ (fit : (i : ℕ) → IsWord (get_or words i 0)) (bytes_fit : All IsByte part) (nine : length words ≡ 9) (s : Shape) (is : some (kinds_of s) ≡ kinds_in (form_of code number))
@@ -271,17 +269,16 @@ module _ (code : ℕ) (words part room : List ℕ) (number : ℕ) (first_word : 
     text = line_of_bytes (reply_bytes (head_of (kinds_of s) number words part) ++ tail_of (kinds_of s) part)
 
     rule-is : {told : Result (Unit {0}) Refusal} → judged ≡ told → record_answer line_in code words part room ≡ outcome told text room
-    rule-is e = judged-is fit bytes_fit nine s is ∙ ap (λ j. outcome j text room) (sym judged_is ∙ e)
+    rule-is {told} e =
+        answer-is code words part room fit bytes_fit (kinds_of s) is (omega (arith, few s))
+        ∙ ap (λ bs. outcome (judged_as (kinds_of s) words part) (line_of_bytes bs) room) (sym (joined s number words part))
+        ∙ ap (λ j. outcome j text room) (sym judged_is ∙ e)
 
     pub refused : {e : Refusal} {r : Result ℕ Refusal} → judged ≡ Err e → r ≡ Err e → Records (record_answer line_in code words part room) room r
     refused told answered = rw (rule-is told, answered) (record { reply = refl; room = refl })
 
     pub written : {x : Unit {0}} {after : List ℕ} {r : Result ℕ Refusal} → judged ≡ Ok x → Records (fitting text room) after r → Records (record_answer line_in code words part room) after r
     written {after = after} {r = r} told records = subst (λ rule. Records rule after r) (sym (rule-is told)) records
-
-  -- a number that the operation is never answered with
-  pub none_is : 1 ≤ length words → form_of code number ≡ none → Records (record_answer line_in code words part room) room (Err BadFrame)
-  none_is some-there is = rw (no-form code words part room some-there (ap (form_of code) (sym first_word) ∙ is)) (record { reply = refl; room = refl })
 
 pub formless : (o : Option Reply) → none ≡ kinds_in o → o ≡ none
 formless none e = refl
