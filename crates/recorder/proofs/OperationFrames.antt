@@ -23,7 +23,7 @@ use Rattle.rules.proofs.SnapshotBytes.{snapshot-only, longest}
 use Rattle.snapshot_reader.specs.Standing.{checked_as, ShortNames}
 use Rattle.snapshot_reader.proofs.Checking.{Says, says}
 use Rattle.answer_bytes.specs.Writing.{WritesReply}
-use Rattle.recorder.specs.Recording.{Records, text_of, RecordsOperation, word_behind}
+use Rattle.recorder.specs.Recording.{Records, RecordsOperation, word_behind}
 use Rattle.refusals.specs.declared.Refusal.{Refusal}
 use Rattle.refusals.specs.declared.Refusal.TheVariants.{NameTooLong, BadFrame}
 
@@ -61,21 +61,21 @@ two-values v w = append-nil (value_bytes v ++ (value_bytes w ++ [])) ∙ ap (λ 
 abbrev pub writing : (number : ℕ) → List ℕ → Bool → Option Written
 writing number fields long = some (record { number = number; fields = fields; is_long = long })
 
-module _ (as_line : Bool) (code : ℕ) (p : Parts) (room : List ℕ) where
+module _ (text : List ℕ → List ℕ) (code : ℕ) (p : Parts) (room : List ℕ) where
   -- the operation's bytes are those of the head and the tail
   pub written : (fields : List ℕ) (long : Bool) (values : List Value) (head tail : List ℕ) {after : List ℕ} {r : Result ℕ Refusal}
       → frame_of_some (operation_of_parts code p) ≡ writing code fields long → long ≡ false → head ≡ reply_bytes (reply code values) → flat_map value_bytes values ++ tail ≡ fields
-      → Records (fitting (text_of as_line (head ++ tail)) room) after r → RecordsOperation as_line code p room after r
+      → Records (fitting (text (head ++ tail)) room) after r → RecordsOperation text code p room after r
   unfolding record_operation recording bytes_in reply_bytes
   written fields long values head tail {after} {r} frame short is all h =
       let same : head ++ tail ≡ bytes_of 1 code ++ fields = ap (λ l. l ++ tail) is ∙ append_assoc (bytes_of 1 code) (flat_map value_bytes values) tail ∙ ap (λ l. bytes_of 1 code ++ l) all in
-      rw (frame, short) (subst (λ l. Records (fitting (text_of as_line l) room) after r) same h)
+      rw (frame, short) (subst (λ l. Records (fitting (text l) room) after r) same h)
 
-  pub too_long : (fields : List ℕ) (long : Bool) → frame_of_some (operation_of_parts code p) ≡ writing code fields long → long ≡ true → RecordsOperation as_line code p room room (Err NameTooLong)
+  pub too_long : (fields : List ℕ) (long : Bool) → frame_of_some (operation_of_parts code p) ≡ writing code fields long → long ≡ true → RecordsOperation text code p room room (Err NameTooLong)
   unfolding record_operation recording
   too_long fields long frame is = rw (frame, is) (record { reply = refl; room = refl })
 
-  pub no-operation : frame_of_some (operation_of_parts code p) ≡ none → RecordsOperation as_line code p room room (Err BadFrame)
+  pub no-operation : frame_of_some (operation_of_parts code p) ≡ none → RecordsOperation text code p room room (Err BadFrame)
   unfolding record_operation recording
   no-operation frame = rw frame (record { reply = refl; room = refl })
 
@@ -131,15 +131,15 @@ word-frame code (inr c) p none e = rw (c, e)
 word-frame code (inr c) p (some s) e = rw (c, e)
 
 -- bytes that the check has refused are no snapshot, or one with a name that is too long
-pub refused : (as_line : Bool) (code : ℕ) (p : Parts) (room front : List ℕ) {given : Result (Unit {0}) Refusal} {r : Result ℕ Refusal} {e : Refusal}
+pub refused : (text : List ℕ → List ℕ) (code : ℕ) (p : Parts) (room front : List ℕ) {given : Result (Unit {0}) Refusal} {r : Result ℕ Refusal} {e : Refusal}
     → ((o : Option Snapshot) → snapshot_of_bytes p.part ≡ o → frame_of_some (operation_of_parts code p) ≡ behind code front o)
-    → given ≡ checked_as (snapshot_of_bytes p.part) → given ≡ Err e → r ≡ Err e → RecordsOperation as_line code p room room r
-refused as_line code p room front {r = r} {e = e} frame is told answered = subst (RecordsOperation as_line code p room room) (sym answered) (of-refusal (says p.part is told))
+    → given ≡ checked_as (snapshot_of_bytes p.part) → given ≡ Err e → r ≡ Err e → RecordsOperation text code p room room r
+refused text code p room front {r = r} {e = e} frame is told answered = subst (RecordsOperation text code p room room) (sym answered) (of-refusal (says p.part is told))
   where
-    of-refusal : Says p.part (Err e) → RecordsOperation as_line code p room room (Err e)
-    of-refusal (inl (bad, none_read)) = subst (λ x. RecordsOperation as_line code p room room (Err x)) (sym bad) (no-operation as_line code p room (frame none none_read))
+    of-refusal : Says p.part (Err e) → RecordsOperation text code p room room (Err e)
+    of-refusal (inl (bad, none_read)) = subst (λ x. RecordsOperation text code p room room (Err x)) (sym bad) (no-operation text code p room (frame none none_read))
     of-refusal (inr (long, name)) =
-        subst (λ x. RecordsOperation as_line code p room room (Err x)) (sym long) (too_long as_line code p room _ _ (frame (some name.snapshot) name.is_read) name.long)
+        subst (λ x. RecordsOperation text code p room room (Err x)) (sym long) (too_long text code p room _ _ (frame (some name.snapshot) name.is_read) name.long)
 
 -- a snapshot that passes is spelled as it stands, and no longer than a frame has room for
 pub snapshot-stands : (part : List ℕ) → All IsByte part → (h : ShortNames part) → (snapshot_bytes h.snapshot ≡ part) × (length part ≤ longest_snapshot)

@@ -10,8 +10,8 @@ ghost use Rattle.recorder.specs.Recording.{Records};
 ghost use Rattle.recorder.specs.Shapes.{kinds_of};
 ghost use Rattle.recorder.specs.AnswerWords.{judged_as, head_of, tail_of, Writable};
 
-use crate::MOST_WORDS;
 use crate::answer_table::{LAST_NUMBER, Shape, shape_of};
+use crate::{Line, MOST_WORDS, Text};
 use answer_bytes::{
     LONGEST_OTHER_ANSWER, write_named, write_named_field, write_named_word, write_number,
     write_three_words, write_two_words, write_word,
@@ -150,7 +150,7 @@ fn write_judged(
     let mut head = [0u8; LONGEST_OTHER_ANSWER];
     let size = write_head(shape, number, words, part, &mut head);
     let start = tail_start(shape, part.len());
-    crate::put(true, &head[..size], &part[start..], output)
+    Line::put(&head[..size], &part[start..], output)
 }
 
 pub fn write_answer(

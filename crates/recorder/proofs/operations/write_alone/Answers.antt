@@ -7,7 +7,7 @@ use Rattle.recorder.proofs.operations.write_alone.Goals as goal
 
 pub returns : goal.returns
 unfolding flat_map
-returns c number amount =
+returns g c number amount =
     let args = c.args in
     let p = parts number amount args.part.now in
-    written args.as_line args.code p args.output.now _ _ [] _ [] (alone-frame args.code c.requires p) refl (head-is c.write_number-size.ensures) refl c.put.ensures
+    written g.T.Text.text args.code p args.output.now _ _ [] _ [] (alone-frame args.code c.requires p) refl (head-is c.write_number-size.ensures) refl c.put.ensures

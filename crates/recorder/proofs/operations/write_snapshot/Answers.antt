@@ -13,14 +13,14 @@ use Rattle.recorder.proofs.OperationFrames.{head-is, head-size, code-size, writt
 use Rattle.recorder.proofs.operations.write_snapshot.Goals as goal
 
 pub returns-in_err-check : goal.returns-in_err-check
-returns-in_err-check c number amount =
+returns-in_err-check g c number amount =
     let args = c.args in
     let p = parts number amount args.snapshot.now in
     let returned : c.from_residual.result ≡ Err c.in_err-check.field-0.0 = search rules in
-    refused args.as_line args.code p args.output.now [] (snapshot-frame args.code c.requires p) c.check.ensures c.in_err-check.was returned
+    refused g.T.Text.text args.code p args.output.now [] (snapshot-frame args.code c.requires p) c.check.ensures c.in_err-check.was returned
 
 pub put-requires : goal.put-requires
-put-requires c =
+put-requires g c =
     let part = c.args.snapshot.now in
     let head = c.write_number-size.ensures in
     let (_, size) = snapshot-stands part (all-bytes part c.type_inv.snapshot) (says part c.check.ensures c.in_ok-check.was) in
@@ -28,11 +28,11 @@ put-requires c =
 
 pub returns : goal.returns
 unfolding flat_map
-returns c number amount =
+returns g c number amount =
     let args = c.args in
     let part = args.snapshot.now in
     let p = parts number amount part in
     let short : ShortNames part = says part c.check.ensures c.in_ok-check.was in
     let (stands, _) = snapshot-stands part (all-bytes part c.type_inv.snapshot) short in
-    written args.as_line args.code p args.output.now _ _ [] _ part (snapshot-frame args.code c.requires p (some short.snapshot) short.is_read) short.short
+    written g.T.Text.text args.code p args.output.now _ _ [] _ part (snapshot-frame args.code c.requires p (some short.snapshot) short.is_read) short.short
     (head-is c.write_number-size.ensures) (sym stands) c.put.ensures
