@@ -1,10 +1,10 @@
--- `recorder::put_bytes`: nothing is written where both parts do not fit (`too_short`); else the head stands at the front, the tail behind it (`two-parts`).
+-- `Bytes` as a text: nothing is written where both parts do not fit (`too_short`); else the head stands at the front, the tail behind it (`two-parts`).
 use mathlib.Core.Path.{refl}
 use mathlib.Core.List.{◌++◌}
 use native.Mathlib.Omega.{arith}
 use lib.ListN.{length-append}
 use Rattle.recorder.proofs.Fitting.{too_short, fits, two-parts}
-use Rattle.recorder.proofs.put_bytes.Goals as goal
+use Rattle.recorder.proofs.BytesText.put.Goals as goal
 
 pub returns-then-output-end : goal.returns-then-output-end
 returns-then-output-end c =

@@ -1,4 +1,4 @@
--- `recorder::put_line`: as `put_bytes`, with the lines of both parts, which stand one behind the other as the line of the whole.
+-- `Line` as a text: as `Bytes`, with the lines of both parts, which stand one behind the other as the line of the whole.
 use mathlib.Core.Path.{◌≡◌, ◌∙◌}
 use mathlib.Core.List.{List, ◌++◌}
 use Prim.Native.Nat.{ℕ, ◌+◌}
@@ -7,7 +7,7 @@ use lib.ListN.{length, length-append}
 use Rattle.rules.specs.Frames.{line_of_bytes}
 use Rattle.rules.proofs.FrameBytes.{line-length, line-append}
 use Rattle.recorder.proofs.Fitting.{too_short, fits, two-parts}
-use Rattle.recorder.proofs.put_line.Goals as goal
+use Rattle.recorder.proofs.LineText.put.Goals as goal
 
 line-size : (head tail : List ℕ) → length (line_of_bytes (head ++ tail)) ≡ length head + length head + length tail + length tail
 line-size head tail = line-length (head ++ tail) ∙ omega (arith, length-append head tail)
