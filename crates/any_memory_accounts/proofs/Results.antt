@@ -1,224 +1,85 @@
--- Each result of the fifteen functions can be read back from its answer: by the number, and then value by value. So the contract of each fixes the result
--- itself: `same-result` (crate room) of the six operations, `same-reading` of the nine reads.
-use mathlib.Core.Path.{◌≡◌, refl}
-use mathlib.Core.List.{[], ◌∷◌}
-use Rattle.rules.specs.AnswerNumbers.{Reply}
-use Rattle.rules.proofs.Values.{beside}
-use Rattle.room.proofs.SameAnswers.{amount_at, number_at, ReadBack}
-use Rattle.accounts.specs.Answers.{ensured_reply, topped_up_reply, limited_reply}
-use Rattle.accounts.specs.declared.Ensured.{Ensured}
-use Rattle.accounts.specs.declared.Ensured.TheVariants as ensured
+-- What the contracts of the fifteen functions leave open of a result: nothing. What is done is read back from its answer, value by value, and a refusal is fixed by its number and by
+-- what it carries.
+use mathlib.Core.Path.{◌≡◌, refl, sym, ap}
+use mathlib.Core.List.{List}
+use Prim.Native.Nat.{ℕ, ◌<◌}
+use native.Mathlib.Omega.{arith}
+use Rattle.std.specs.Prelude.{Result, Ok, Err}
+use Rattle.rules.specs.Lists.{All}
+use Rattle.rules.specs.RoomAndSoundLedger.{Ledger, IsByte}
+use Rattle.rules.specs.AnswerNumbers.{Value, Reply, done, reply_of, Outcome, Refusal as RulesRefusal}
+use Rattle.refusals.specs.declared.Refusal.{Refusal}
+use Rattle.refusals.specs.Answers.{refusal_of, answer_of, carries_nothing, carries_amount, carries_count, carries_version}
+use Rattle.numbers.specs.declared.Microcents.{Microcents}
+use Rattle.room.specs.Room.{Answers}
+use Rattle.room.proofs.SameAnswers.{amount_at, number_at, ReadBack, one-result, same_answer}
 use Rattle.accounts.specs.declared.ToppedUp.{ToppedUp}
-use Rattle.accounts.specs.declared.ToppedUp.TheVariants as topped_up
-use Rattle.accounts.specs.declared.Limited.{Limited}
-use Rattle.accounts.specs.declared.Limited.TheVariants as limited
-use Rattle.reservations.specs.Answers.{reserved_reply, committed_reply, released_reply}
-use Rattle.reservations.specs.declared.Reserved.{Reserved}
-use Rattle.reservations.specs.declared.Reserved.TheVariants as reserved
+use Rattle.accounts.specs.Answers.{carries_top_up}
+use Rattle.reservations.specs.declared.Granted.{Granted}
 use Rattle.reservations.specs.declared.Committed.{Committed}
-use Rattle.reservations.specs.declared.Committed.TheVariants as committed
 use Rattle.reservations.specs.declared.Released.{Released}
-use Rattle.reservations.specs.declared.Released.TheVariants as released
-use Rattle.reads.specs.Answers.{reading_reply, total_reply}
-use Rattle.reads.specs.declared.Reading.{Reading}
-use Rattle.reads.specs.declared.Reading.TheVariants as reading
-use Rattle.reads.specs.declared.Total.{Total}
-use Rattle.reads.specs.declared.Total.TheVariants as total
-use Rattle.any_memory_accounts.specs.Tells.{counted_reply, versioned_reply, since_reply}
-use Rattle.any_memory_accounts.specs.declared.Counted.{Counted}
-use Rattle.any_memory_accounts.specs.declared.Counted.TheVariants as counted
-use Rattle.any_memory_accounts.specs.declared.Versioned.{Versioned}
-use Rattle.any_memory_accounts.specs.declared.Versioned.TheVariants as versioned
-use Rattle.any_memory_accounts.specs.declared.Since.{Since}
-use Rattle.any_memory_accounts.specs.declared.Since.TheVariants as since
+use Rattle.reservations.specs.Answers.{carries_grant, carries_commit, carries_release}
+use Rattle.any_memory_accounts.specs.Tells.{Tells}
+use Rattle.any_memory_accounts.proofs.SameReading.{same-reading}
 
--- ── the operations ─────────────────────────────────────────────────────────────────────────────
+-- ── what is done ───────────────────────────────────────────────────────────────────────────────
 
-abbrev ensured_in : Reply → Ensured
-ensured_in r =
-    beside r.number
-    ((0, ensured.Done) ∷ (1, ensured.NegativeAmount (amount_at r 0)) ∷ (19, ensured.NameTooLong) ∷ (20, ensured.NamesFull) ∷ [])
-    ensured.UnsoundLedger
+-- what a function hands over can be read back from its answer
+abbrev pub HandsOver : {A : Type 0} → (A → List Value) → Type 0
+HandsOver carried = ReadBack (λ x. done (carried x))
 
-ensured-back : (r : Ensured) → ensured_in (ensured_reply r) ≡ r
-ensured-back ensured.Done = refl
-ensured-back (ensured.NegativeAmount z) = refl
-ensured-back ensured.NameTooLong = refl
-ensured-back ensured.NamesFull = refl
-ensured-back ensured.UnsoundLedger = refl
+pub nothing-read : HandsOver {A = Unit {0}} carries_nothing
+nothing-read = record { back = λ _. tt; is = λ _. refl }
 
-pub ensured-read : ReadBack ensured_reply
-ensured-read = record { back = ensured_in; is = ensured-back }
+pub amount-read : HandsOver carries_amount
+amount-read = record { back = λ r. amount_at r 0; is = λ _. refl }
 
-abbrev topped_up_in : Reply → ToppedUp
-topped_up_in r =
-    beside r.number
-    ((0, topped_up.Done (amount_at r 0) (amount_at r 1) (amount_at r 2))
-    ∷ (2, topped_up.InvalidAmount)
-    ∷ (3, topped_up.MissingTenant)
-    ∷ (4, topped_up.Overflow)
-    ∷ (19, topped_up.NameTooLong)
-    ∷ [])
-    topped_up.UnsoundLedger
+pub count-read : HandsOver carries_count
+count-read = record { back = λ r. number_at r 0; is = λ _. refl }
 
-topped-up-back : (r : ToppedUp) → topped_up_in (topped_up_reply r) ≡ r
-topped-up-back (topped_up.Done amount initial remaining) = refl
-topped-up-back topped_up.InvalidAmount = refl
-topped-up-back topped_up.MissingTenant = refl
-topped-up-back topped_up.Overflow = refl
-topped-up-back topped_up.NameTooLong = refl
-topped-up-back topped_up.UnsoundLedger = refl
+pub version-read : HandsOver carries_version
+version-read = record { back = λ r. number_at r 0; is = λ _. refl }
 
-pub topped-up-read : ReadBack topped_up_reply
-topped-up-read = record { back = topped_up_in; is = topped-up-back }
+pub top-up-read : HandsOver carries_top_up
+top-up-read = record { back = λ r. record { amount = amount_at r 0; initial = amount_at r 1; remaining = amount_at r 2 }; is = λ _. refl }
 
-abbrev limited_in : Reply → Limited
-limited_in r =
-    beside r.number
-    ((0, limited.Done) ∷ (1, limited.NegativeAmount (amount_at r 0)) ∷ (19, limited.NameTooLong) ∷ (20, limited.NamesFull) ∷ [])
-    limited.UnsoundLedger
+pub grant-read : HandsOver carries_grant
+grant-read = record { back = λ r. record { remaining = amount_at r 0; id = record { 0 = number_at r 1 } }; is = λ _. refl }
 
-limited-back : (r : Limited) → limited_in (limited_reply r) ≡ r
-limited-back limited.Done = refl
-limited-back (limited.NegativeAmount z) = refl
-limited-back limited.NameTooLong = refl
-limited-back limited.NamesFull = refl
-limited-back limited.UnsoundLedger = refl
+pub commit-read : HandsOver carries_commit
+commit-read = record { back = λ r. record { remaining = amount_at r 0; actual = amount_at r 1 }; is = λ _. refl }
 
-pub limited-read : ReadBack limited_reply
-limited-read = record { back = limited_in; is = limited-back }
+pub release-read : HandsOver carries_release
+release-read = record { back = λ r. record { remaining = amount_at r 0; amount = amount_at r 1 }; is = λ _. refl }
 
-abbrev reserved_in : Reply → Reserved
-reserved_in r =
-    beside r.number
-    ((0, reserved.Granted (amount_at r 0) (record { 0 = number_at r 1 }))
-    ∷ (3, reserved.MissingTenant)
-    ∷ (4, reserved.Overflow (amount_at r 0))
-    ∷ (5, reserved.ExposureLimitExceeded (amount_at r 0) (amount_at r 1))
-    ∷ (6, reserved.Insufficient (amount_at r 0) (amount_at r 1))
-    ∷ (19, reserved.NameTooLong)
-    ∷ (21, reserved.ReservationsFull)
-    ∷ [])
-    reserved.UnsoundLedger
+-- ── the result ─────────────────────────────────────────────────────────────────────────────────
 
-reserved-back : (r : Reserved) → reserved_in (reserved_reply r) ≡ r
-reserved-back (reserved.Granted remaining id) = refl
-reserved-back reserved.MissingTenant = refl
-reserved-back (reserved.Overflow held) = refl
-reserved-back (reserved.ExposureLimitExceeded held limit) = refl
-reserved-back (reserved.Insufficient remaining required) = refl
-reserved-back reserved.NameTooLong = refl
-reserved-back reserved.ReservationsFull = refl
-reserved-back reserved.UnsoundLedger = refl
+-- no refusal has the number of done
+refused-above : (e : RulesRefusal) → 0 < (reply_of e).number
+refused-above e = grind arith
 
-pub reserved-read : ReadBack reserved_reply
-reserved-read = record { back = reserved_in; is = reserved-back }
+-- two results that say the same: the same value handed over, or refusals of one number that carry the same
+abbrev pub SaysSame : {A : Type 0} → Result A Refusal → Result A Refusal → Type 0
+SaysSame (Ok x) (Ok y) = x ≡ y
+SaysSame (Ok x) (Err e) = ⊥
+SaysSame (Err d) (Ok y) = ⊥
+SaysSame (Err d) (Err e) = reply_of (refusal_of d) ≡ reply_of (refusal_of e)
 
-abbrev committed_in : Reply → Committed
-committed_in r =
-    beside r.number
-    ((0, committed.Done (amount_at r 0) (amount_at r 1))
-    ∷ (2, committed.InvalidAmount)
-    ∷ (3, committed.MissingTenant)
-    ∷ (4, committed.Overflow (amount_at r 0))
-    ∷ (7, committed.MissingReservation)
-    ∷ (8, committed.Overrun (amount_at r 0))
-    ∷ [])
-    committed.UnsoundLedger
+module _ {A : Type 0} (carried : A → List Value) (read : HandsOver carried) where
+  says-same : (r s : Result A Refusal) → answer_of carried r ≡ answer_of carried s → SaysSame r s
+  says-same (Ok x) (Ok y) e = one-result (λ x. done (carried x)) read x y e
+  says-same (Ok x) (Err d) e = omega (arith, refused-above (refusal_of d), ap (λ r. r.number) e)
+  says-same (Err d) (Ok y) e = omega (arith, refused-above (refusal_of d), ap (λ r. r.number) e)
+  says-same (Err d) (Err e) q = q
 
-committed-back : (r : Committed) → committed_in (committed_reply r) ≡ r
-committed-back (committed.Done remaining actual) = refl
-committed-back committed.InvalidAmount = refl
-committed-back committed.MissingTenant = refl
-committed-back (committed.Overflow remaining) = refl
-committed-back committed.MissingReservation = refl
-committed-back (committed.Overrun remaining) = refl
-committed-back committed.UnsoundLedger = refl
+  -- of the six operations: two results that a contract permits say the same, and the memory is the same
+  pub same-operation : (f : Ledger → Outcome) (before after others : List ℕ) → All IsByte after → All IsByte others → (r s : Result A Refusal)
+      → Answers f before (answer_of carried r) after → Answers f before (answer_of carried s) others → SaysSame r s × (after ≡ others)
+  same-operation f before after others bytes other-bytes r s one two =
+      let same = same_answer before f (answer_of carried r) after bytes one (answer_of carried s) others other-bytes two in
+      (says-same r s same.0, same.1)
 
-pub committed-read : ReadBack committed_reply
-committed-read = record { back = committed_in; is = committed-back }
-
-abbrev released_in : Reply → Released
-released_in r =
-    beside r.number
-    ((0, released.Done (amount_at r 0) (amount_at r 1)) ∷ (3, released.MissingTenant) ∷ (7, released.MissingReservation) ∷ [])
-    released.UnsoundLedger
-
-released-back : (r : Released) → released_in (released_reply r) ≡ r
-released-back (released.Done remaining amount) = refl
-released-back released.MissingTenant = refl
-released-back released.MissingReservation = refl
-released-back released.UnsoundLedger = refl
-
-pub released-read : ReadBack released_reply
-released-read = record { back = released_in; is = released-back }
-
--- ── the reads ──────────────────────────────────────────────────────────────────────────────────
-
-abbrev reading_in : Reply → Reading
-reading_in r =
-    beside r.number
-    ((0, reading.Amount (amount_at r 0)) ∷ (3, reading.MissingTenant) ∷ (19, reading.NameTooLong) ∷ [])
-    reading.UnsoundLedger
-
-reading-back : (r : Reading) → reading_in (reading_reply r) ≡ r
-reading-back (reading.Amount z) = refl
-reading-back reading.MissingTenant = refl
-reading-back reading.NameTooLong = refl
-reading-back reading.UnsoundLedger = refl
-
-pub reading-read : ReadBack reading_reply
-reading-read = record { back = reading_in; is = reading-back }
-
-abbrev total_in : Reply → Total
-total_in r =
-    beside r.number
-    ((0, total.Amount (amount_at r 0)) ∷ (15, total.AggregateOverflow) ∷ [])
-    total.UnsoundLedger
-
-total-back : (r : Total) → total_in (total_reply r) ≡ r
-total-back (total.Amount z) = refl
-total-back total.AggregateOverflow = refl
-total-back total.UnsoundLedger = refl
-
-pub total-read : ReadBack total_reply
-total-read = record { back = total_in; is = total-back }
-
-abbrev counted_in : Reply → Counted
-counted_in r =
-    beside r.number
-    ((0, counted.Count (number_at r 0)) ∷ [])
-    counted.UnsoundLedger
-
-counted_back : (r : Counted) → counted_in (counted_reply r) ≡ r
-counted_back (counted.Count n) = refl
-counted_back counted.UnsoundLedger = refl
-
-pub counted-read : ReadBack counted_reply
-counted-read = record { back = counted_in; is = counted_back }
-
-abbrev versioned_in : Reply → Versioned
-versioned_in r =
-    beside r.number
-    ((0, versioned.Version (number_at r 0)) ∷ [])
-    versioned.UnsoundLedger
-
-versioned-back : (r : Versioned) → versioned_in (versioned_reply r) ≡ r
-versioned-back (versioned.Version v) = refl
-versioned-back versioned.UnsoundLedger = refl
-
-pub versioned-read : ReadBack versioned_reply
-versioned-read = record { back = versioned_in; is = versioned-back }
-
-abbrev since_in : Reply → Since
-since_in r =
-    beside r.number
-    ((0, since.Amount (amount_at r 0)) ∷ [])
-    since.UnsoundLedger
-
-since-back : (r : Since) → since_in (since_reply r) ≡ r
-since-back (since.Amount z) = refl
-since-back since.UnsoundLedger = refl
-
-pub since-read : ReadBack since_reply
-since-read = record { back = since_in; is = since-back }
+  -- of the nine reads
+  pub same-read : (f : Ledger → Reply) (memory : List ℕ) (r s : Result A Refusal) → Tells f memory (answer_of carried r) → Tells f memory (answer_of carried s) → SaysSame r s
+  same-read f memory r s one two =
+      says-same r s (same-reading (λ r. r) (record { back = λ r. r; is = λ _. refl }) f memory (answer_of carried r) (answer_of carried s) one two)

@@ -101,13 +101,13 @@ IsOneOf tags f = OneOf tags (tag_of (declared enum) f)
 
 -- all but a snapshot and a migration
 abbrev short_tags : List ℕ
-short_tags = 0 ∷ 1 ∷ 2 ∷ 3 ∷ 4 ∷ 5 ∷ 7 ∷ 8 ∷ 10 ∷ 11 ∷ 12 ∷ 13 ∷ 14 ∷ []
+short_tags = 0 ∷ 1 ∷ 2 ∷ 3 ∷ 4 ∷ 5 ∷ 7 ∷ 8 ∷ 10 ∷ 11 ∷ 12 ∷ 13 ∷ []
 
 abbrev lent_tags : List ℕ
 lent_tags = 0 ∷ 1 ∷ 2 ∷ 3 ∷ 4 ∷ 5 ∷ 6 ∷ 7 ∷ 8 ∷ 10 ∷ 12 ∷ []
 
 abbrev unlent_tags : List ℕ
-unlent_tags = 9 ∷ 11 ∷ 13 ∷ 14 ∷ []
+unlent_tags = 9 ∷ 11 ∷ 13 ∷ []
 
 -- as code finds a frame that no arm names: one that is none of theirs has one of the other tags
 pub is_short : (f : Frame) → f ≢ frame.Snapshot → ((fence : ℕ) → f ≢ frame.Migrate fence) → IsOneOf short_tags f
@@ -125,29 +125,26 @@ is_short frame.Certificate _ _ = hit short_tags 10 tt
 is_short (frame.CertificateOfSnapshot since) _ _ = hit short_tags 11 tt
 is_short frame.ConservationProof _ _ = hit short_tags 12 tt
 is_short frame.Status _ _ = hit short_tags 13 tt
-is_short frame.BadFrame _ _ = hit short_tags 14 tt
 
 pub is_lent : (f : Frame)
     → ((fence : ℕ) → f ≢ frame.Migrate fence)
     → ((since : Microcents) → f ≢ frame.CertificateOfSnapshot since)
     → f ≢ frame.Status
-    → f ≢ frame.BadFrame
     → IsOneOf lent_tags f
-is_lent (frame.Ensure end amount) _ _ _ _ = hit lent_tags 0 tt
-is_lent (frame.TopUp end amount) _ _ _ _ = hit lent_tags 1 tt
-is_lent (frame.Limit end amount) _ _ _ _ = hit lent_tags 2 tt
-is_lent (frame.Reserve end amount) _ _ _ _ = hit lent_tags 3 tt
-is_lent (frame.Commit id amount) _ _ _ _ = hit lent_tags 4 tt
-is_lent (frame.Release id) _ _ _ _ = hit lent_tags 5 tt
-is_lent frame.Snapshot _ _ _ _ = hit lent_tags 6 tt
-is_lent frame.Restore _ _ _ _ = hit lent_tags 7 tt
-is_lent frame.RecoveryRestore _ _ _ _ = hit lent_tags 8 tt
-is_lent (frame.Migrate fence) other _ _ _ = absurd (other fence refl)
-is_lent frame.Certificate _ _ _ _ = hit lent_tags 10 tt
-is_lent (frame.CertificateOfSnapshot since) _ other _ _ = absurd (other since refl)
-is_lent frame.ConservationProof _ _ _ _ = hit lent_tags 12 tt
-is_lent frame.Status _ _ other _ = absurd (other refl)
-is_lent frame.BadFrame _ _ _ other = absurd (other refl)
+is_lent (frame.Ensure end amount) _ _ _ = hit lent_tags 0 tt
+is_lent (frame.TopUp end amount) _ _ _ = hit lent_tags 1 tt
+is_lent (frame.Limit end amount) _ _ _ = hit lent_tags 2 tt
+is_lent (frame.Reserve end amount) _ _ _ = hit lent_tags 3 tt
+is_lent (frame.Commit id amount) _ _ _ = hit lent_tags 4 tt
+is_lent (frame.Release id) _ _ _ = hit lent_tags 5 tt
+is_lent frame.Snapshot _ _ _ = hit lent_tags 6 tt
+is_lent frame.Restore _ _ _ = hit lent_tags 7 tt
+is_lent frame.RecoveryRestore _ _ _ = hit lent_tags 8 tt
+is_lent (frame.Migrate fence) other _ _ = absurd (other fence refl)
+is_lent frame.Certificate _ _ _ = hit lent_tags 10 tt
+is_lent (frame.CertificateOfSnapshot since) _ other _ = absurd (other since refl)
+is_lent frame.ConservationProof _ _ _ = hit lent_tags 12 tt
+is_lent frame.Status _ _ other = absurd (other refl)
 
 pub is_unlent : (f : Frame)
     → ((end : ℕ) (amount : Microcents) → f ≢ frame.Ensure end amount)
@@ -176,7 +173,6 @@ is_unlent frame.Certificate _ _ _ _ _ _ _ _ _ other _ = absurd (other refl)
 is_unlent (frame.CertificateOfSnapshot since) _ _ _ _ _ _ _ _ _ _ _ = hit unlent_tags 11 tt
 is_unlent frame.ConservationProof _ _ _ _ _ _ _ _ _ _ other = absurd (other refl)
 is_unlent frame.Status _ _ _ _ _ _ _ _ _ _ _ = hit unlent_tags 13 tt
-is_unlent frame.BadFrame _ _ _ _ _ _ _ _ _ _ _ = hit unlent_tags 14 tt
 
 module _ (bs : List ℕ) where
   -- the room of an operation on a snapshot that is not handed out
@@ -198,7 +194,6 @@ module _ (bs : List ℕ) where
   short-answer (frame.CertificateOfSnapshot since) h = supplied-room (certify since.0) (λ s. refl) word_end
   short-answer frame.ConservationProof h = refl
   short-answer frame.Status h = supplied-room judge (λ s. refl) 1
-  short-answer frame.BadFrame h = refl
 
   -- 24, of an operation that is one and asks for a ledger
   pub refuses : (f : Frame) → IsOneOf lent_tags f → PartsWithin bs f → (answer_or23 unsound (operation_in bs f)).reply ≡ reply_of UnsoundLedger
@@ -217,7 +212,6 @@ module _ (bs : List ℕ) where
   refuses (frame.CertificateOfSnapshot since) h within = absurd (miss lent_tags 11 tt h)
   refuses frame.ConservationProof h within = refl
   refuses frame.Status h within = absurd (miss lent_tags 13 tt h)
-  refuses frame.BadFrame h within = absurd (miss lent_tags 14 tt h)
 
   -- no ledger is asked for: what is lent is no matter, and stays
   module _ (l : Lent) where
@@ -242,4 +236,3 @@ module _ (bs : List ℕ) where
     takes_none (frame.CertificateOfSnapshot since) h = no-matter (certify since.0) (λ s. refl) word_end
     takes_none frame.ConservationProof h = absurd (miss unlent_tags 12 tt h)
     takes_none frame.Status h = no-matter judge (λ s. refl) 1
-    takes_none frame.BadFrame h = refl

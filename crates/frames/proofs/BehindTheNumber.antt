@@ -1,18 +1,18 @@
 -- A snapshot handed out: written into the part behind the number, then the number. With `put` for both writes the output is the number, the bytes, and what
 -- stood behind them (`number-before`).
-use mathlib.Core.Path.{◌≡◌, sym, ap, ap₂, ◌∙◌}
+use mathlib.Core.Path.{◌≡◌, sym, ap, subst, ◌∙◌}
 use mathlib.Core.List.{List, [], ◌∷◌, ◌++◌, append-nil}
 use Prim.Native.Nat.{ℕ, suc, ◌+◌, ◌-◌, ◌≤◌}
 use native.Mathlib.Omega.{arith}
 use borrow.Rule.Slice.PartMut.{put_same}
 use lib.ListN.{length, take, drop, length-drop, drop_of_length-le}
 use lib.Seq.{take_all, drop_at, drop-drop, length-take-le}
-use Rattle.rules.specs.AnswerNumbers.{SnapshotBytes, done}
-use Rattle.rules.specs.SnapshotsMigrationCertificates.{bytes_of}
+use Rattle.rules.specs.AnswerNumbers.{SnapshotBytes, Reply, Refusal, done, reply_of}
+use Rattle.rules.specs.SnapshotsMigrationCertificates.{bytes_of, output_after}
 use Rattle.rules.specs.Frames.{value_bytes, reply_bytes}
-use Rattle.numbers.specs.LittleEndian.{little_bytes}
 use Rattle.records.specs.Rows.{row, put}
 use Rattle.rules.proofs.Lists.{flat_map-one}
+use Rattle.rules.proofs.Refusals.{refusal-hands-out-nothing}
 use Rattle.answer_bytes.specs.Writing.{WritesReply}
 
 reply-is : (bs : List ℕ) → reply_bytes (done (SnapshotBytes bs ∷ [])) ≡ 0 ∷ bs
@@ -44,12 +44,21 @@ module _ (output : List ℕ) where
         let next : 1 + n ≡ suc n = omega arith in
         ap (drop n) (take_all (length output - 1) (drop 1 output) (omega (arith, length-drop 1 output))) ∙ drop-drop n 1 output ∙ ap (λ m. drop m output) next
 
-    pub number-before : (bs : List ℕ) {size : ℕ} → length bs ≡ size → {after w : List ℕ} → after ≡ bs ++ drop (length bs) part → w ≡ little_bytes 1 0
-        → WritesReply (done (SnapshotBytes bs ∷ [])) output (put 0 1 (with_part after) w) (1 + size)
-    unfolding little_bytes
+    pub number-before : (bs : List ℕ) {size : ℕ} → length bs ≡ size → {after w : List ℕ} → after ≡ bs ++ drop (length bs) part → w ≡ 0 ∷ drop 1 (with_part after)
+        → WritesReply (done (SnapshotBytes bs ∷ [])) output w (1 + size)
     number-before bs long {after} {w} is written = record {
       size = omega (arith, ap length (reply-is bs));
       output =
-          ap₂ (λ u v. u ++ v) written (behind after ∙ is ∙ ap (λ l. bs ++ l) (kept (length bs)))
+          written ∙ ap (λ l. 0 ∷ l) (behind after ∙ is ∙ ap (λ l. bs ++ l) (kept (length bs)))
           ∙ sym (ap (λ l. l ++ drop (length l) output) (reply-is bs));
     }
+
+    -- what a snapshot hands out has its size, and is written so
+    pub handed-out : (answer : Reply) {size : ℕ} {after w : List ℕ} → answer ≡ done (SnapshotBytes (take size after) ∷ []) → size ≤ length after
+        → after ≡ output_after answer part → w ≡ 0 ∷ drop 1 (with_part after) → WritesReply answer output w (1 + size)
+    handed-out answer {size} {after} {w} is fits kept written = subst (λ r. WritesReply r output w (1 + size)) (sym is)
+        (number-before (take size after) (length-take-le size after fits) (kept ∙ ap (λ r. output_after r part) is) written)
+
+  -- a refusal leaves the output as it was
+  pub refusal-leaves : (e : Refusal) {after : List ℕ} → after ≡ output_after (reply_of e) part → with_part after ≡ output
+  refusal-leaves e kept = part-back (kept ∙ ap (λ l. l ++ drop (length l) part) (refusal-hands-out-nothing e))

@@ -1,5 +1,5 @@
 -- An output with room for the longest snapshot answers as one of just that room does: no snapshot is too long for either, by the rules' bound on a snapshot's
--- bytes. So 22 is ruled out, and what is not written is 9 (`exhausted`).
+-- bytes.
 use mathlib.Core.Path.{◌≡◌, refl, sym, ap, ◌∙◌}
 use mathlib.Core.Bool.{false}
 use mathlib.Core.List.{List, [], ◌∷◌}
@@ -20,10 +20,6 @@ use Rattle.rules.proofs.Tests.{by-test, by_bool}
 use Rattle.rules.proofs.SnapshotBytes.{never-too-short}
 use Rattle.rules.proofs.EveryLine.{own-snapshot-has-room}
 use Rattle.rules.proofs.Refusals.{refusal-number}
-use Rattle.snapshot_writer.specs.Output.{snapshot_reply}
-use Rattle.snapshot_writer.specs.declared.Snapshotted.{Snapshotted}
-use Rattle.snapshot_writer.specs.declared.Snapshotted.TheVariants as snapshotted
-use Rattle.snapshot_writer.specs.contracts.Snapshotted.{enum}
 
 module _ {size : ℕ} (long : longest_snapshot ≤ size) where
   enough : (s : Snapshot) → too_short_for longest_snapshot s ≡ false → too_short_for size s ≡ too_short_for longest_snapshot s
@@ -52,27 +48,3 @@ done-is (some refusal) x bs e = absurd (omega (arith, refusal-number refusal, ap
 pub hands_out : (size fence : ℕ) (s : Snapshot) (bs : List ℕ) → done (SnapshotBytes bs ∷ []) ≡ migrate size fence s → bs ≡ snapshot_bytes (with_version (tagged fence) s)
 unfolding migrate
 hands_out size fence s bs e = ap (λ r. handed_out r.carried) (done-is _ _ bs e)
-
--- ── a snapshot that is not written ─────────────────────────────────────────────────────────────
-
--- it is done or 9
-at-most-nine : (L : Ledger) → Sound L → (snapshot longest_snapshot L).reply.number ≤ 9
-unfolding snapshot taking_snapshot
-at-most-nine L known = rw (own-snapshot-has-room L known) (by-test (λ (o : Outcome). o.reply.number ≤ 9) (eqb L.next_id M) (λ e. omega arith) (λ e. omega arith))
-
-abbrev other_tags : List ℕ
-other_tags = 1 ∷ 2 ∷ 3 ∷ []
-
--- as code finds it: one that is not `Written` has one of the other tags
-pub not_written : (r : Snapshotted) → ((size : ℕ) → r ≢ snapshotted.Written size) → OneOf other_tags (tag_of (declared enum) r)
-not_written (snapshotted.Written size) other = absurd (other size refl)
-not_written snapshotted.AllocatorExhausted other = hit other_tags 1 tt
-not_written snapshotted.OutputTooShort other = hit other_tags 2 tt
-not_written snapshotted.UnsoundLedger other = hit other_tags 3 tt
-
-pub exhausted : (L : Ledger) → Sound L → (output : List ℕ) (r : Snapshotted) → OneOf other_tags (tag_of (declared enum) r) → snapshot_reply output r ≡ (snapshot longest_snapshot L).reply
-    → snapshot_reply output r ≡ reply_of AllocatorExhausted
-exhausted L known output (snapshotted.Written size) h e = absurd (miss other_tags 0 tt h)
-exhausted L known output snapshotted.AllocatorExhausted h e = refl
-exhausted L known output snapshotted.OutputTooShort h e = absurd (omega (arith, at-most-nine L known, ap (λ r. r.number) e))
-exhausted L known output snapshotted.UnsoundLedger h e = absurd (omega (arith, at-most-nine L known, ap (λ r. r.number) e))

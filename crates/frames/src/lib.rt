@@ -9,7 +9,7 @@ ghost use Rattle.rules.specs.AccountRules.{ensure, top_up, limit, reserve, commi
 ghost use Rattle.rules.specs.SnapshotsMigrationCertificates.{Snapshot, migrate, status, certificate_of_snapshot};
 ghost use Rattle.rules.specs.Frames.{on_account, take_snapshot, certify_ledger, prove_conservation, restore_from, recover_from, longest_snapshot, answer_or23};
 ghost use Rattle.snapshot_reader.specs.Standing.{IsSnapshot, OfSnapshot};
-ghost use Rattle.frame_reader.specs.Operations.{operation_in, operation_read, PartsStand};
+ghost use Rattle.frame_reader.specs.Operations.{operation_in, operation_read, PartsWithin, PartsStand};
 ghost use Rattle.answer_bytes.specs.Sizes.{longest_other_answer};
 ghost use Rattle.answer_bytes.specs.Writing.{WritesReply};
 ghost use Rattle.room.specs.Room.{SoundRoom};
@@ -78,7 +78,7 @@ fn release(room: &mut [u8], id: Identifier, output: &mut [u8]) -> usize
 
 // A snapshot of this size was written behind the answer's number, where it stays.
 fn behind_number(output: &mut [u8], size: usize) -> usize
-    requires { (1 ≤ length output.old) × (1 + size ≤ length output.old) }
+    requires { 1 + size ≤ length output.old }
     ensures size { result ≡ 1 + size }
     ensures output { output.new ≡ 0 ∷ drop 1 output.old }
 {
@@ -157,12 +157,23 @@ fn status(bytes: &[u8], output: &mut [u8]) -> usize
 }
 
 // How much room the longest answer to this frame takes.
-pub fn room_for(frame: Option<Frame>) -> usize
-    ensures { (bytes : List ℕ) → PartsStand bytes frame → result ≡ room_for (operation_read bytes frame) }
+fn room_of(frame: Frame) -> usize
+    ensures { (bytes : List ℕ) → PartsWithin bytes frame → result ≡ room_for (operation_in bytes frame) }
 {
     match frame {
-        Some(Frame::Snapshot | Frame::Migrate(_)) => LONGEST_ANSWER,
+        Frame::Snapshot => LONGEST_ANSWER,
+        Frame::Migrate(_fence) => LONGEST_ANSWER,
         _ => LONGEST_OTHER_ANSWER,
+    }
+}
+
+// The same of what was read: a bad frame gets its number alone.
+pub fn room_for(read: Option<Frame>) -> usize
+    ensures { (bytes : List ℕ) → PartsStand bytes read → result ≡ room_for (operation_read bytes read) }
+{
+    match read {
+        Some(frame) => room_of(frame),
+        None => LONGEST_OTHER_ANSWER,
     }
 }
 

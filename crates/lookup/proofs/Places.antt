@@ -1,18 +1,16 @@
 -- A name among the places, by FirstPlace; and where it would go: `GoesAt` says what reading shows, and of two such indices the nearer would not stop.
 use mathlib.Core.Path.{◌≡◌, refl, sym, subst, ◌∙◌}
 use mathlib.Core.Logic.{◌≢◌}
-use mathlib.Core.Bool.{Bool, false}
+use mathlib.Core.Bool.{Bool}
 use mathlib.Core.List.{List, [], ◌∷◌}
 use Prim.Native.Nat.{Ordering}
 use Prim.Native.Nat.{ℕ, zero, suc, ◌≤◌, ◌<◌}
 use native.Mathlib.Nat.{not-suc-le-zero}
 use native.Mathlib.Omega.{arith}
 use lib.ListN.{length, get_or}
-use Rattle.rules.specs.Lists.{All}
 use Rattle.rules.specs.RoomAndSoundLedger.{Name, order, same}
 use Rattle.rules.proofs.Tests.{by_order}
-use Rattle.rules.proofs.Lists.{all_map}
-use Rattle.rules.proofs.Names.{same_true, same_false}
+use Rattle.rules.proofs.Names.{same_true}
 use Rattle.names.specs.Names.{spelled}
 use Rattle.records.specs.declared.Place.{Place}
 use Rattle.std.specs.Prelude.{Option, Some, None}
@@ -52,11 +50,6 @@ module _ (a : Name) where
   name-found d ps i e =
       let (h, t, k) = subst (FirstIs (spells a) d ps) e (name-is d ps) in
       (h, sym (same_true a (spelled (get_or ps i d).name) t))
-
-  pub name-absent : (ps : List Place) → place_of_name a ps ≡ None → All (λ p. spelled p.name ≢ a) ps
-  name-absent ps e =
-      all_map (λ p. spells a p ≡ false) (λ p. spelled p.name ≢ a) (λ p h q. same_false a (spelled p.name) h (sym q)) ps
-      (subst (FirstIs (spells a) no_place ps) e (name-is no_place ps))
 
 -- ── where a new name goes ──────────────────────────────────────────────────────────────────────
 
@@ -103,6 +96,3 @@ found_in a ps None e = tt
 -- so the seat there may be read (`seats::seat_at`)
 pub seat-readable : (xs : List ℕ) → SoundRoom xs → (a : Name) (f : Option ℕ) → f ≡ place_of_name a (used_places (contents_of xs)) → Sized xs × FoundIn f (used_places (contents_of xs))
 seat-readable xs sound a f e = ((searchable xs sound).sized, found_in a (used_places (contents_of xs)) f e)
-
-pub place-within : (a : Name) (ps : List Place) → place_for_name a ps ≤ length ps
-place-within a ps = (goes_at a no_place ps).within

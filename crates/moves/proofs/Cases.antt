@@ -10,9 +10,9 @@ use lib.Dec.{ltb, eqb}
 use lib.IntN.{ℤ, pos, negsuc}
 use lib.Signed.{mag}
 use Rattle.std.specs.Prelude.{None}
-use Rattle.rules.specs.RoomAndSoundLedger.{M, Account, seat, has_account, AddsUp}
+use Rattle.rules.specs.RoomAndSoundLedger.{M, Account, has_account, AddsUp}
 use Rattle.rules.specs.AnswerNumbers.{NegativeAmount, InvalidAmount, MissingTenant, MissingReservation, OverflowOfReserve, OverflowOfCommit, ExposureLimitExceeded, Insufficient}
-use Rattle.rules.specs.AccountRules.{refuse, leave, account, ensure_rule, top_up_rule, reserve_rule, commit_rule}
+use Rattle.rules.specs.AccountRules.{refuse, leave, ensure_rule, top_up_rule, reserve_rule, commit_rule}
 use Rattle.rules.proofs.Tests.{by-test, true-false}
 use Rattle.numbers.specs.Amounts.{positive_of}
 use Rattle.moves.specs.declared.Seat.{Seat}

@@ -1,4 +1,4 @@
--- Laws of little-endian numbers: there and back over any size, and as code reads and writes them.
+-- Laws of little-endian numbers: there and back over any size, and as std writes and reads them.
 use mathlib.Core.Path.{◌≡◌, refl, ◌∙◌, ap, sym}
 use mathlib.Core.List.{List, [], ◌∷◌}
 use Prim.Native.Nat.{ℕ, zero, suc, ◌+◌, ◌*◌, ◌/◌, ◌%◌, ◌^◌, ◌<◌}
@@ -48,7 +48,7 @@ pub byte-is : (i n : ℕ) → byte_at i n ≡ n / 256 ^ i % 256
 byte-is zero n = rw div-one
 byte-is (suc i) n = refl
 
-pub low_bytes : (i size n : ℕ) → bytes_low_first i size n ≡ little_bytes size (n / 256 ^ i)
+low_bytes : (i size n : ℕ) → bytes_low_first i size n ≡ little_bytes size (n / 256 ^ i)
 unfolding little_bytes
 low_bytes i zero n = refl
 low_bytes i (suc size) n =

@@ -3,92 +3,87 @@ use mathlib.Core.Path.{◌≡◌, refl, sym, ◌∙◌, ap, subst}
 use mathlib.Core.Bool.{cond}
 use mathlib.Core.List.{List, [], ◌∷◌}
 use mathlib.Core.Option.{Option, none, some}
-use Prim.Native.Nat.{ℕ, ◌≤◌, ◌<◌}
-use native.Mathlib.Omega.{arith}
-use borrow.Author.Tests.{lt-ltb, le-ltb}
+use Prim.Native.Nat.{ℕ, ◌≤◌}
+use borrow.Author.Tests.{le-ltb}
 use lib.Dec.{eqb}
 use lib.IntN.{pos}
 use lib.ListN.{length}
+use Rattle.std.specs.Prelude.{Option as Found, Result, Ok, Err, IfOk}
 use Rattle.rules.specs.RoomAndSoundLedger.{Name, Account, Ledger, seat_in, longest_name}
-use Rattle.rules.specs.AnswerNumbers.{Amount, Reply, MissingTenant, NameTooLong, done, reply_of}
-use Rattle.rules.specs.AccountRules.{Move, refuse, perform, is_too_long, on_name, read_rule, read_reserved_rule}
-use Rattle.rules.proofs.Tests.{by_bool, by-test}
-use Rattle.moves.specs.Moves.{account_in, account_of, kept, kept_seat, SeatSound}
+use Rattle.rules.specs.AnswerNumbers.{Value, Amount}
+use Rattle.rules.specs.AccountRules.{refuse, perform, is_too_long, on_name, read_rule, read_reserved_rule}
+use Rattle.rules.specs.AnswerNumbers as rules
+use Rattle.rules.proofs.Tests.{by_bool}
+use Rattle.moves.specs.Moves.{account_in, kept, kept_seat}
 use Rattle.moves.specs.declared.Seat.{Seat}
+use Rattle.refusals.specs.Answers.{answer_of}
+use Rattle.refusals.specs.declared.Refusal.{Refusal}
+use Rattle.refusals.specs.declared.Refusal.TheVariants.{NameTooLong, MissingTenant}
 use Rattle.room.specs.Contents.{contents_of, used_places, place_of_name}
-use Rattle.room.specs.Room.{IsRoom, SoundRoom}
+use Rattle.room.specs.Room.{IsRoom, SoundRoom, OfRoom}
 use Rattle.room.specs.Seats.{seat_found}
-use Rattle.room.specs.declared.Found.{Found}
-use Rattle.room.proofs.Seating.{seat-found, kept-account, kept-limit, seat-sound, Small, seat-small}
+use Rattle.room.proofs.Seating.{seat-found, seat-sound, Small, seat-small}
 use Rattle.room.proofs.SoundRoom.{places-are}
-use Rattle.reads.specs.Answers.{sought, account_reply}
-use Rattle.reads.specs.declared.Sought.{Sought}
-use Rattle.reads.specs.declared.Sought.TheVariants as found
+use Rattle.reads.specs.Answers.{sought, with_account}
 
--- ── the look-up ────────────────────────────────────────────────────────────────────────────────
+-- an amount of a seat, as it is told
+abbrev tells : (Seat → ℕ) → Seat → List Value
+tells of s = Amount (pos (of s)) ∷ []
 
 module _ (L : Ledger) (a : Name) where
-  pub sought-long : longest_name < length a → found.NameTooLong ≡ sought L a
-  sought-long h = rw (lt-ltb longest_name (length a) h)
+  -- ── the look-up ──────────────────────────────────────────────────────────────────────────────
 
-  pub sought-seat : (xs : List ℕ) → IsRoom xs L → (f : Found) (s : Seat) → length a ≤ longest_name → f ≡ place_of_name a (used_places (contents_of xs)) → s ≡ seat_found f (used_places (contents_of xs)) → found.Seat s ≡ sought L a
+  pub sought-seat : (xs : List ℕ) → IsRoom xs L → (f : Found ℕ) (s : Seat) → length a ≤ longest_name → f ≡ place_of_name a (used_places (contents_of xs)) → s ≡ seat_found f (used_places (contents_of xs)) → Ok s ≡ sought L a
   sought-seat xs room f s short found_is seat_is =
       let is : s ≡ kept_seat (seat_in a L.places) =
       seat_is ∙ ap (λ f. seat_found f (used_places (contents_of xs))) found_is ∙ ap (λ ps. seat_found (place_of_name a ps) ps) (places-are xs L room) ∙ seat-found a L.places in
-      rw (le-ltb longest_name (length a) short) (ap found.Seat is)
-
-  -- a seat that was sought is the name's
-  seat-of : (s : Seat) → sought L a ≡ found.Seat s → s ≡ kept_seat (seat_in a L.places)
-  seat-of s = by-test (λ q. q ≡ found.Seat s → s ≡ kept_seat (seat_in a L.places)) (is_too_long a) (λ _ e. absurd (let z : ◌≡◌ {A = ℕ} 0 1 = cc in omega arith)) (λ _ e. cc)
+      rw (le-ltb longest_name (length a) short) (ap Ok is)
 
   -- ── what is read ─────────────────────────────────────────────────────────────────────────────
 
-  -- the answer of a rule to what was sought
-  answered : (Option Account → ℕ → Move) → Sought → Reply
-  answered rule found.NameTooLong = reply_of NameTooLong
-  answered rule (found.Seat s) = (perform L a (rule (account_of s) s.limit)).reply
-
-  answers : (rule : Option Account → ℕ → Move) → answered rule (sought L a) ≡ (on_name L a rule).reply
-  unfolding on_name answered perform
-  answers rule =
+  -- an amount of an account
+  pub read-account : (of : Account → ℕ) (r : Result Seat Refusal) → r ≡ with_account (sought L a) → answer_of (tells (λ s. of (account_in s))) r ≡ (on_name L a (read_rule of)).reply
+  unfolding on_name read_rule perform kept_seat
+  read-account of r is =
       let s = seat_in a L.places in
-      by_bool (λ b. answered rule (cond b found.NameTooLong (found.Seat (kept_seat s))) ≡ (perform L a (cond b (refuse NameTooLong) (rule s.account s.limit))).reply) (is_too_long a)
-      (λ _. refl) (λ _ i. (perform L a (rule (kept-account s i) (kept-limit s i))).reply)
+      ap (answer_of (tells (λ s. of (account_in s)))) is
+      ∙ by_bool (λ b. answer_of (tells (λ s. of (account_in s))) (with_account (cond b (Err NameTooLong) (Ok (kept_seat s)))) ≡ (perform L a (cond b (refuse rules.NameTooLong) (read_rule of s.account s.limit))).reply) (is_too_long a)
+      (λ _. refl) (λ _. of-kept s.account s.limit)
+    where
+      of-kept : (c : Option Account) (l : ℕ) → answer_of (tells (λ s. of (account_in s))) (with_account (Ok (kept c l))) ≡ (perform L a (read_rule of c l)).reply
+      of-kept none l = refl
+      of-kept (some c) l = refl
 
-  -- a seat in its one form has nothing reserved without an account
-  kept-reserves : (c : Option Account) (l : ℕ) → done (Amount (pos (kept c l).reserved) ∷ []) ≡ (perform L a (read_reserved_rule (account_of (kept c l)) (kept c l).limit)).reply
-  unfolding read_reserved_rule perform
-  kept-reserves none l = refl
-  kept-reserves (some c) l = refl
-
-  -- 19 before any rule
-  pub read-long : (rule : Option Account → ℕ → Move) (q : Sought) → q ≡ sought L a → q ≡ found.NameTooLong → reply_of NameTooLong ≡ (on_name L a rule).reply
-  unfolding answered
-  read-long rule q is long = ap (answered rule) (sym long ∙ is) ∙ answers rule
-
-  module _ (s : Seat) (q : Sought) (is : q ≡ sought L a) (seat : q ≡ found.Seat s) where
-    told : (rule : Option Account → ℕ → Move) → (perform L a (rule (account_of s) s.limit)).reply ≡ (on_name L a rule).reply
-    unfolding answered
-    told rule = ap (answered rule) (sym seat ∙ is) ∙ answers rule
-
-    pub read-account : (of : Account → ℕ) → account_reply s.account (of (account_in s)) ≡ (on_name L a (read_rule of)).reply
-    unfolding read_rule perform
-    read-account of =
-        by_bool (λ b. cond b (reply_of MissingTenant) (done (Amount (pos (of (account_in s))) ∷ [])) ≡ (perform L a (read_rule of (cond b none (some (account_in s))) s.limit)).reply) (eqb s.account 0)
-        (λ _. refl) (λ _. refl)
-        ∙ told (read_rule of)
-
-    -- "reserved of one gives 0"
-    pub read-reserved : done (Amount (pos s.reserved) ∷ []) ≡ (on_name L a read_reserved_rule).reply
-    unfolding kept_seat
-    read-reserved =
-        let t = seat_in a L.places in
-        subst (λ t. done (Amount (pos t.reserved) ∷ []) ≡ (perform L a (read_reserved_rule (account_of t) t.limit)).reply) (sym (seat-of s (sym is ∙ seat))) (kept-reserves t.account t.limit) ∙ told read_reserved_rule
+  -- "reserved of one gives 0": a seat in its one form has nothing reserved without an account
+  pub read-reserved : (r : Result Seat Refusal) → r ≡ sought L a → answer_of (tells (λ s. s.reserved)) r ≡ (on_name L a read_reserved_rule).reply
+  unfolding on_name read_reserved_rule perform kept_seat
+  read-reserved r is =
+      let s = seat_in a L.places in
+      ap (answer_of (tells (λ s. s.reserved))) is
+      ∙ by_bool (λ b. answer_of (tells (λ s. s.reserved)) (cond b (Err NameTooLong) (Ok (kept_seat s))) ≡ (perform L a (cond b (refuse rules.NameTooLong) (read_reserved_rule s.account s.limit))).reply) (is_too_long a)
+      (λ _. refl) (λ _. of-kept s.account s.limit)
+    where
+      of-kept : (c : Option Account) (l : ℕ) → answer_of (tells (λ s. s.reserved)) (Ok (kept c l)) ≡ (perform L a (read_reserved_rule c l)).reply
+      of-kept none l = refl
+      of-kept (some c) l = refl
 
 -- ── amounts ────────────────────────────────────────────────────────────────────────────────────
 
-pub sought-small : (xs : List ℕ) (a : Name) (s : Seat) (q : Sought) → SoundRoom xs → ((L : Ledger) → IsRoom xs L → q ≡ sought L a) → q ≡ found.Seat s → Small s
-sought-small xs a s q sound is seat =
-    let L = sound.ledger in
-    let room = sound.is_room in
-    seat-small s (subst SeatSound (sym (seat-of L a s (sym (is L room) ∙ seat))) (seat-sound L room.sound a))
+with_account-small : (r : Result Seat Refusal) → IfOk r Small → IfOk (with_account r) Small
+with_account-small (Ok s) h = by_bool (λ b. IfOk {E = Refusal} (cond b (Err MissingTenant) (Ok s)) Small) (eqb s.account 0) (λ _. tt) (λ _. h)
+with_account-small (Err e) h = tt
+
+module _ (xs : List ℕ) (sound : SoundRoom xs) (a : Name) (s : Seat) where
+  abbrev L : Ledger
+  L = sound.ledger
+
+  small : IfOk (sought L a) Small
+  small =
+      let seat = kept_seat (seat_in a L.places) in
+      by_bool (λ b. IfOk {E = Refusal} (cond b (Err NameTooLong) (Ok seat)) Small) (is_too_long a) (λ _. tt) (λ _. seat-small seat (seat-sound L sound.is_room.sound a))
+
+  pub sought-small : OfRoom xs (λ L. Ok s ≡ sought L a) → Small s
+  sought-small is = subst (λ r. IfOk r Small) (sym (is L sound.is_room)) small
+
+  pub account-small : OfRoom xs (λ L. Ok s ≡ with_account (sought L a)) → Small s
+  account-small is = subst (λ r. IfOk r Small) (sym (is L sound.is_room)) (with_account-small (sought L a) small)

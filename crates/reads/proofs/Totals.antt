@@ -10,13 +10,13 @@ use borrow.Author.Tests.{eq-eqb, ne_eqb, lt-ltb, le-ltb, ltb-true, ltb-false}
 use lib.Dec.{ltb, eqb}
 use lib.IntN.{pos}
 use lib.ListN.{length}
+use Rattle.std.specs.Prelude.{Option as Total, Some, None, Result, Ok, ok_or, unwrap_or}
 use Rattle.rules.specs.Lists.{sum, keep}
 use Rattle.rules.specs.RoomAndSoundLedger.{M, Account, Place as RulesPlace, Ledger, has_account, committed_of, committed_at, committed_total}
-use Rattle.rules.specs.AnswerNumbers.{Amount, Count, Version, AggregateOverflow, done, reply_of}
+use Rattle.rules.specs.AnswerNumbers.{Amount, Count, Version, done, reply_of}
+use Rattle.rules.specs.AnswerNumbers as rules
 use Rattle.rules.specs.AccountRules.{is_account, read_committed_total, read_accounts, read_live, read_last_version, read_committed_since, read_ledger}
 use Rattle.rules.proofs.Tests.{by-test, by_bool}
-use Rattle.numbers.specs.declared.Sum.{Sum}
-use Rattle.numbers.specs.declared.Sum.TheVariants.{Fits, AboveM}
 use Rattle.moves.specs.Moves.{kept, kept_seat}
 use Rattle.records.specs.Layout.{place_start, place_size}
 use Rattle.records.specs.Rows.{row}
@@ -24,7 +24,11 @@ use Rattle.records.specs.Records.{sizes_of, head_of, place_of}
 use Rattle.records.specs.declared.Place.{Place}
 use Rattle.records.specs.declared.Head.{Head}
 use Rattle.records.specs.declared.Sizes.{Sizes}
-use Rattle.room.specs.Room.{place_record, IsRoom}
+use Rattle.refusals.specs.Answers.{answer_of}
+use Rattle.refusals.specs.declared.Refusal.{Refusal}
+use Rattle.refusals.specs.declared.Refusal.TheVariants.{AggregateOverflow}
+use Rattle.room.specs.Room.{place_record, IsRoom, SoundRoom, OfRoom}
+use Rattle.room.specs.Contents.{Sized}
 use Rattle.room.proofs.SoundRoom.{sizes-are, head-is, sized}
 use Rattle.reads.specs.Answers.{summed}
 use Rattle.reads.proofs.Sums.{sum_to, sum-next, sum-all, sum-within}
@@ -44,9 +48,6 @@ module _ (p : Place) where
 
   pub counted_none : p.account ≡ 0 → counted p ≡ 0
   counted_none h = rw (eq-eqb p.account 0 h)
-
-  pub counted-most : counted p ≤ 1
-  counted-most = by-test (λ n. n ≤ 1) (eqb p.account 0) (λ _. omega arith) (λ _. omega arith)
 
 record-committed : (p : RulesPlace) → committed_in (place_record p) ≡ committed_at p
 unfolding place_record kept_seat
@@ -74,79 +75,97 @@ keep-counts (p ∷ ps) = by_bool (λ b. cond b 1 0 + sum (λ q. cond (is_account
 -- ── a total that may be above M ────────────────────────────────────────────────────────────────
 
 module _ (t : ℕ) where
-  pub summed-fits : (n : ℕ) → summed t ≡ Fits n → (t ≡ n) × (n ≤ M)
-  summed-fits n = by-test (λ s. s ≡ Fits n → (t ≡ n) × (n ≤ M)) (ltb M t) (λ _ e. absurd (let z : ◌≡◌ {A = ℕ} 0 1 = cc in omega arith)) (λ h e. let q : t ≡ n = cc in (q, omega (arith, ltb-false M t h)))
+  pub summed-above : M < t → None ≡ summed t
+  summed-above h = rw (lt-ltb M t h)
 
-  pub summed-above : summed t ≡ AboveM → M < t
-  summed-above = by-test (λ s. s ≡ AboveM → M < t) (ltb M t) (λ h e. ltb-true M t h) (λ _ e. absurd (let z : ◌≡◌ {A = ℕ} 0 1 = cc in omega arith))
+  pub summed-of : (n : ℕ) → n ≡ t → n ≤ M → Some n ≡ summed t
+  summed-of n e h = rw (le-ltb M t (omega arith)) (ap Some e)
 
-  fits-summed : (n : ℕ) → n ≡ t → n ≤ M → Fits n ≡ summed t
-  fits-summed n e h = rw (le-ltb M t (omega arith)) (ap Fits e)
+  pub above-summed : None ≡ summed t → M < t
+  above-summed = by-test (λ s. None ≡ s → M < t) (ltb M t) (λ h e. ltb-true M t h) (λ _ e. absurd (let z : ◌≡◌ {A = ℕ} 0 1 = cc in omega arith))
 
-  above-summed : M < t → AboveM ≡ summed t
-  above-summed h = rw (lt-ltb M t h)
+  pub within-summed : (n : ℕ) → Some n ≡ summed t → (n ≡ t) × (n ≤ M)
+  within-summed n = by-test (λ s. Some n ≡ s → (n ≡ t) × (n ≤ M)) (ltb M t) (λ _ e. absurd (let z : ◌≡◌ {A = ℕ} 0 1 = cc in omega arith)) (λ h e. let q : n ≡ t = cc in (q, omega (arith, ltb-false M t h)))
 
--- ── the room of a ledger ───────────────────────────────────────────────────────────────────────
+  -- "or M if larger"
+  capped : unwrap_or (summed t) M ≡ min t M
+  capped = by-test (λ s. unwrap_or s M ≡ min t M) (ltb M t) (λ h. sym (min-eq_right (omega (arith, ltb-true M t h)))) (λ h. sym (min-eq_left (omega (arith, ltb-false M t h))))
 
-module _ (xs : List ℕ) (L : Ledger) (room : IsRoom xs L) where
+-- ── the total ──────────────────────────────────────────────────────────────────────────────────
+
+module _ (L : Ledger) (o : Total ℕ) (is : o ≡ summed (committed_total L.places)) where
   abbrev total : ℕ
   total = committed_total L.places
 
-  -- the sum of what is committed, after the last place
-  pub sum_is : (i n : ℕ) → (sizes_of xs).used ≤ i → n ≡ sum_to committed_in xs i → n ≤ M → Fits n ≡ summed total
+  pub total-reads : (r : Result ℕ Refusal) → r ≡ ok_or o AggregateOverflow → answer_of (λ n. Amount (pos n) ∷ []) r ≡ read_ledger L read_committed_total
+  unfolding read_ledger
+  total-reads r e =
+      ap (answer_of (λ n. Amount (pos n) ∷ [])) (e ∙ ap (λ o. ok_or o AggregateOverflow) is)
+      ∙ by_bool (λ b. answer_of (λ n. Amount (pos n) ∷ []) (ok_or (cond b None (Some total)) AggregateOverflow) ≡ cond b (reply_of rules.AggregateOverflow) (done (Amount (pos total) ∷ []))) (ltb M total)
+      (λ _. refl) (λ _. refl)
+
+-- ── the room of a ledger ───────────────────────────────────────────────────────────────────────
+
+-- a place in use is loaded from within the room, and adds to a sum what is loaded
+module _ (xs : List ℕ) (sound : SoundRoom xs) (s : Sizes) (is : s ≡ sizes_of xs) (i : ℕ) (h : i < s.used) where
+  room_sized : Sized xs
+  room_sized = sized xs sound.ledger sound.is_room
+
+  in_use : i < (sizes_of xs).used
+  in_use = omega (arith, ap (λ t. t.used) is)
+
+  pub place-within : place_start i + place_size ≤ length xs
+  place-within = omega (arith, room_sized, in_use)
+
+  pub place-adds : (w : Place → ℕ) (p : Place) → p ≡ place_of (row place_size (place_start i) xs) → sum_to w xs (i + 1) ≡ sum_to w xs i + w p
+  place-adds w p e = sum-next w xs room_sized i in_use ∙ ap (λ q. sum_to w xs i + w q) (sym e)
+
+module _ (xs : List ℕ) (L : Ledger) (room : IsRoom xs L) where
+  pub committed-part : (i : ℕ) → sum_to committed_in xs i ≤ committed_total L.places
   unfolding committed_total
-  sum_is i n h e small = fits-summed total n (e ∙ sum-all committed_in xs (sized xs L room) committed_at record-committed L room i h) small
+  committed-part = sum-within committed_in xs (sized xs L room) committed_at record-committed L room
 
-  -- one that would be above M with the next place
-  pub sum-above : (i n : ℕ) → i < (sizes_of xs).used → n ≡ sum_to committed_in xs i → M < n + (place_of (row place_size (place_start i) xs)).committed → AboveM ≡ summed total
-  unfolding committed_total
-  sum-above i n h e above =
-      let s = sized xs L room in
-      above-summed total (omega (arith, sum-next committed_in xs s i h, sum-within committed_in xs s committed_at record-committed L room (i + 1)))
+  module _ (s : Sizes) (sizes_is : s ≡ sizes_of xs) where
+    pub committed-all : (i : ℕ) → s.used ≤ i → sum_to committed_in xs i ≡ committed_total L.places
+    unfolding committed_total
+    committed-all i h = sum-all committed_in xs (sized xs L room) committed_at record-committed L room i (omega (arith, ap (λ t. t.used) sizes_is))
 
-  pub total-reads : (q : Sum) (n : ℕ) → q ≡ summed total → q ≡ Fits n → done (Amount (pos n) ∷ []) ≡ read_ledger L read_committed_total
-  unfolding read_ledger
-  total-reads q n is fits =
-      let f = summed-fits total n (sym is ∙ fits) in
-      rw (le-ltb M total (omega arith)) (ap (λ m. done (Amount (pos m) ∷ [])) (sym f.0))
-
-  pub total-overflows : (q : Sum) → q ≡ summed total → q ≡ AboveM → reply_of AggregateOverflow ≡ read_ledger L read_committed_total
-  unfolding read_ledger
-  total-overflows q is above = rw (lt-ltb M total (summed-above total (sym is ∙ above)))
-
-  pub count-is : (i n : ℕ) → (sizes_of xs).used ≤ i → n ≡ sum_to counted xs i → done (Count n ∷ []) ≡ read_ledger L read_accounts
-  unfolding read_ledger
-  count-is i n h e = ap (λ m. done (Count m ∷ [])) (e ∙ sum-all counted xs (sized xs L room) (λ p. cond (is_account p) 1 0) record-counted L room i h ∙ keep-counts L.places)
-
-  pub live-is : (s : Sizes) → s ≡ sizes_of xs → done (Count s.live ∷ []) ≡ read_ledger L read_live
-  unfolding read_ledger
-  live-is s e = ap (λ t. done (Count t.live ∷ [])) (e ∙ sizes-are xs L room)
-
-  module _ (h : Head) (e : h ≡ head_of xs) where
-    pub version-is : done (Version h.last_version ∷ []) ≡ read_ledger L read_last_version
+    pub count-is : (i n : ℕ) → s.used ≤ i → n ≡ sum_to counted xs i → done (Count n ∷ []) ≡ read_ledger L read_accounts
     unfolding read_ledger
-    version-is = ap (λ g. done (Version g.last_version ∷ [])) (e ∙ head-is xs L room)
+    count-is i n h e =
+        ap (λ m. done (Count m ∷ []))
+        (e ∙ sum-all counted xs (sized xs L room) (λ p. cond (is_account p) 1 0) record-counted L room i (omega (arith, ap (λ t. t.used) sizes_is)) ∙ keep-counts L.places)
 
+    pub live-is : done (Count s.live ∷ []) ≡ read_ledger L read_live
+    unfolding read_ledger
+    live-is = ap (λ t. done (Count t.live ∷ [])) (sizes_is ∙ sizes-are xs L room)
+
+  pub version-is : (h : Head) → h ≡ head_of xs → done (Version h.last_version ∷ []) ≡ read_ledger L read_last_version
+  unfolding read_ledger
+  version-is h e = ap (λ g. done (Version g.last_version ∷ [])) (e ∙ head-is xs L room)
+
+  module _ (o : Total ℕ) (is : o ≡ summed (committed_total L.places)) (h : Head) (head_is : h ≡ head_of xs) (n : ℕ) (capped_is : n ≡ unwrap_or o M) where
     baseline-is : h.baseline ≡ L.baseline
-    baseline-is = ap (λ g. g.baseline) (e ∙ head-is xs L room)
+    baseline-is = ap (λ g. g.baseline) (head_is ∙ head-is xs L room)
 
-    pub baseline-small : h.baseline ≤ M
-    baseline-small = omega (arith, baseline-is, room.sound.baseline_in_range.0)
+    total-is : n ≡ min (committed_total L.places) M
+    total-is = capped_is ∙ ap (λ o. unwrap_or o M) is ∙ capped (committed_total L.places)
 
-    pub baseline-below : (q : Sum) (n : ℕ) → q ≡ summed total → q ≡ Fits n → (h.baseline ≤ n) × (n ≤ M)
-    baseline-below q n is fits = let f = summed-fits total n (sym is ∙ fits) in (omega (arith, baseline-is, room.sound.baseline_in_range.1), f.1)
+    within : (h.baseline ≤ n) × (n ≤ M)
+    within = (omega (arith, baseline-is, total-is, room.sound.baseline_in_range), omega (arith, total-is))
 
-    pub since-reads : (q : Sum) (n : ℕ) → q ≡ summed total → q ≡ Fits n → done (Amount (pos (n - h.baseline)) ∷ []) ≡ read_ledger L read_committed_since
+    pub since-reads : done (Amount (pos (n - h.baseline)) ∷ []) ≡ read_ledger L read_committed_since
     unfolding read_ledger
-    since-reads q n is fits =
-        let f = summed-fits total n (sym is ∙ fits) in
-        let m : min total M ≡ n = min-eq_left (omega arith) ∙ f.0 in
-        λ i. done (Amount (pos (sym m i - baseline-is i)) ∷ [])
+    since-reads = λ i. done (Amount (pos (total-is i - baseline-is i)) ∷ [])
 
-    -- "or M if larger"
-    pub since-overflows : (q : Sum) → q ≡ summed total → q ≡ AboveM → done (Amount (pos (M - h.baseline)) ∷ []) ≡ read_ledger L read_committed_since
-    unfolding read_ledger
-    since-overflows q is above =
-        let a = summed-above total (sym is ∙ above) in
-        let m : min total M ≡ M = min-eq_right (omega arith) in
-        λ i. done (Amount (pos (sym m i - baseline-is i)) ∷ [])
+-- what the total asks of the subtraction, and of the amount told
+module _ (xs : List ℕ) (sound : SoundRoom xs) (o : Total ℕ) (is : OfRoom xs (λ L. o ≡ summed (committed_total L.places))) where
+  pub total-small : (n : ℕ) → Ok n ≡ ok_or o AggregateOverflow → n ≤ M
+  total-small n e =
+      by-test (λ s. Ok n ≡ ok_or s AggregateOverflow → n ≤ M) (ltb M (committed_total sound.ledger.places))
+      (λ _ e. absurd (let z : ◌≡◌ {A = ℕ} 0 1 = cc in omega arith))
+      (λ h e. let q : n ≡ committed_total sound.ledger.places = cc in omega (arith, ltb-false M (committed_total sound.ledger.places) h))
+      (e ∙ ap (λ o. ok_or o AggregateOverflow) (is sound.ledger sound.is_room))
+
+  pub since-within : (h : Head) → h ≡ head_of xs → (n : ℕ) → n ≡ unwrap_or o M → (h.baseline ≤ n) × (n ≤ M)
+  since-within = within xs sound.ledger sound.is_room o (is sound.ledger sound.is_room)

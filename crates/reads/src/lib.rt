@@ -2,13 +2,13 @@
 
 #![tactic(auto)]
 
-ghost use Rattle.std.specs.Prelude.{◌≤◌, ◌≡◌};
-ghost use Rattle.rules.specs.RoomAndSoundLedger.{M, committed_total};
+ghost use Rattle.std.specs.Prelude.{◌≡◌};
+ghost use Rattle.rules.specs.RoomAndSoundLedger.{committed_total};
 ghost use Rattle.rules.specs.AccountRules.{read_remaining, read_initial, read_committed, read_reserved, operate, read_committed_total, read_accounts, read_live, read_last_version, read_committed_since, read_ledger};
 ghost use Rattle.room.specs.Room.{SoundRoom, OfRoom};
 ghost use Rattle.rules.specs.AnswerNumbers.{done};
 ghost use Rattle.refusals.specs.Answers.{answer_of, carries_amount, carries_count, carries_version};
-ghost use Rattle.reads.specs.Answers.{sought, summed, account_reply};
+ghost use Rattle.reads.specs.Answers.{sought, with_account, summed};
 
 use moves::Seat;
 use numbers::Microcents;
@@ -27,38 +27,39 @@ fn seek(room: &[u8], part: &[u8]) -> Result<Seat, Refusal>
 }
 
 // Document 01, Account rules, reads: without an account three of the four amounts are refused with 3.
-fn of_account(account: u8, amount: u64) -> Result<Microcents, Refusal>
-    requires { amount ≤ M }
-    ensures { answer_of carries_amount result ≡ account_reply account amount }
+fn seek_account(room: &[u8], part: &[u8]) -> Result<Seat, Refusal>
+    requires { SoundRoom room.now }
+    ensures { OfRoom room.now (λ L. result ≡ with_account (sought L part.now)) }
 {
-    if account == 0 {
+    let seat = seek(room, part)?;
+    if seat.account == 0 {
         return Err(Refusal::MissingTenant);
     }
-    Ok(numbers::amount(amount))
+    Ok(seat)
 }
 
 pub fn remaining(room: &[u8], part: &[u8]) -> Result<Microcents, Refusal>
     requires { SoundRoom room.now }
     ensures { OfRoom room.now (λ L. answer_of carries_amount result ≡ (operate L (read_remaining part.now)).reply) }
 {
-    let seat = seek(room, part)?;
-    of_account(seat.account, seat.remaining)
+    let seat = seek_account(room, part)?;
+    Ok(numbers::amount(seat.remaining))
 }
 
 pub fn initial(room: &[u8], part: &[u8]) -> Result<Microcents, Refusal>
     requires { SoundRoom room.now }
     ensures { OfRoom room.now (λ L. answer_of carries_amount result ≡ (operate L (read_initial part.now)).reply) }
 {
-    let seat = seek(room, part)?;
-    of_account(seat.account, seat.initial)
+    let seat = seek_account(room, part)?;
+    Ok(numbers::amount(seat.initial))
 }
 
 pub fn committed(room: &[u8], part: &[u8]) -> Result<Microcents, Refusal>
     requires { SoundRoom room.now }
     ensures { OfRoom room.now (λ L. answer_of carries_amount result ≡ (operate L (read_committed part.now)).reply) }
 {
-    let seat = seek(room, part)?;
-    of_account(seat.account, seat.committed)
+    let seat = seek_account(room, part)?;
+    Ok(numbers::amount(seat.committed))
 }
 
 // "reserved of one gives 0": a name without an account has nothing reserved.
@@ -78,14 +79,9 @@ fn sum_committed(room: &[u8]) -> Option<u64>
     let sizes = records::load_sizes(room);
     let used = sizes.used as usize;
     let mut total = 0;
-    let mut i = 0;
-    while i < used {
+    for i in 0..used {
         let place = records::load_place(room, i);
-        let Some(more) = numbers::plus(total, place.committed) else {
-            return None;
-        };
-        total = more;
-        i += 1;
+        total = numbers::plus(total, place.committed)?;
     }
     Some(total)
 }
@@ -95,9 +91,7 @@ pub fn committed_total(room: &[u8]) -> Result<Microcents, Refusal>
     requires { SoundRoom room.now }
     ensures { OfRoom room.now (λ L. answer_of carries_amount result ≡ read_ledger L read_committed_total) }
 {
-    let Some(total) = sum_committed(room) else {
-        return Err(Refusal::AggregateOverflow);
-    };
+    let total = sum_committed(room).ok_or(Refusal::AggregateOverflow)?;
     Ok(numbers::amount(total))
 }
 
@@ -108,13 +102,11 @@ pub fn accounts(room: &[u8]) -> u64
     let sizes = records::load_sizes(room);
     let used = sizes.used as usize;
     let mut count = 0;
-    let mut at = 0;
-    while at < used {
+    for at in 0..used {
         let place = records::load_place(room, at);
         if place.account != 0 {
             count += 1;
         }
-        at += 1;
     }
     count
 }
@@ -141,8 +133,6 @@ pub fn committed_since(room: &[u8]) -> Microcents
     ensures { OfRoom room.now (λ L. done (carries_amount result) ≡ read_ledger L read_committed_since) }
 {
     let head = records::load_head(room);
-    let Some(total) = sum_committed(room) else {
-        return numbers::amount(rules::M - head.baseline);
-    };
+    let total = sum_committed(room).unwrap_or(rules::M);
     numbers::amount(total - head.baseline)
 }

@@ -102,37 +102,12 @@ pub struct Sizes {
     pub live: u64,
 }
 
-fn name_bytes(part: &[u8]) -> [u8; rules::LONGEST_NAME]
-    requires { length part.now ≡ longest_name }
-    ensures { result ≡ part.now }
-{
-    let mut bytes = [0u8; rules::LONGEST_NAME];
-    let mut i = 0;
-    while i < rules::LONGEST_NAME {
-        bytes[i] = part[i];
-        i += 1;
-    }
-    bytes
-}
-
-fn write_name_bytes(part: &mut [u8], bytes: [u8; rules::LONGEST_NAME])
-    requires { length part.old ≡ longest_name }
-    ensures { part.new ≡ bytes }
-{
-    let mut i = 0;
-    while i < rules::LONGEST_NAME {
-        part[i] = bytes[i];
-        i += 1;
-    }
-}
-
 fn read_place(part: &[u8]) -> Place
     requires { length part.now ≡ place_size }
     ensures { result ≡ place_of part.now }
 {
-    let length = numbers::read1(&part[NAME_OFFSET..NAME_BYTES_OFFSET]);
-    let bytes = name_bytes(&part[NAME_BYTES_OFFSET..PLACE_SIZE]);
-    let name = Name { length, bytes };
+    let mut bytes = [0u8; rules::LONGEST_NAME];
+    bytes.copy_from_slice(&part[NAME_BYTES_OFFSET..PLACE_SIZE]);
     Place {
         initial: numbers::read8(&part[INITIAL_OFFSET..REMAINING_OFFSET]),
         remaining: numbers::read8(&part[REMAINING_OFFSET..RESERVED_OFFSET]),
@@ -140,7 +115,10 @@ fn read_place(part: &[u8]) -> Place
         committed: numbers::read8(&part[COMMITTED_OFFSET..LIMIT_OFFSET]),
         limit: numbers::read8(&part[LIMIT_OFFSET..ACCOUNT_OFFSET]),
         account: numbers::read1(&part[ACCOUNT_OFFSET..NAME_OFFSET]),
-        name,
+        name: Name {
+            length: numbers::read1(&part[NAME_OFFSET..NAME_BYTES_OFFSET]),
+            bytes,
+        },
     }
 }
 
@@ -148,8 +126,6 @@ fn write_place(part: &mut [u8], place: Place)
     requires { length part.old ≡ place_size }
     ensures { part.new ≡ place_bytes place }
 {
-    let name = place.name;
-    let bytes = name.bytes;
     numbers::write8(&mut part[INITIAL_OFFSET..REMAINING_OFFSET], place.initial);
     numbers::write8(
         &mut part[REMAINING_OFFSET..RESERVED_OFFSET],
@@ -159,8 +135,8 @@ fn write_place(part: &mut [u8], place: Place)
     numbers::write8(&mut part[COMMITTED_OFFSET..LIMIT_OFFSET], place.committed);
     numbers::write8(&mut part[LIMIT_OFFSET..ACCOUNT_OFFSET], place.limit);
     numbers::write1(&mut part[ACCOUNT_OFFSET..NAME_OFFSET], place.account);
-    numbers::write1(&mut part[NAME_OFFSET..NAME_BYTES_OFFSET], name.length);
-    write_name_bytes(&mut part[NAME_BYTES_OFFSET..PLACE_SIZE], bytes);
+    numbers::write1(&mut part[NAME_OFFSET..NAME_BYTES_OFFSET], place.name.length);
+    part[NAME_BYTES_OFFSET..PLACE_SIZE].copy_from_slice(&place.name.bytes);
 }
 
 fn read_booking(part: &[u8]) -> Booking
@@ -188,8 +164,7 @@ pub fn load_place(room: &[u8], i: usize) -> Place
     ensures { result ≡ place_of (row place_size (place_start i) room.now) }
 {
     let from = HEAD_SIZE + PLACE_SIZE * i;
-    let end = from + PLACE_SIZE;
-    read_place(&room[from..end])
+    read_place(&room[from..from + PLACE_SIZE])
 }
 
 // A store also says what it knows of the values by their types, which the laws of the room ask for.
@@ -199,8 +174,7 @@ pub fn store_place(room: &mut [u8], i: usize, place: Place)
     ensures fits { PlaceFits place }
 {
     let to = HEAD_SIZE + PLACE_SIZE * i;
-    let end = to + PLACE_SIZE;
-    write_place(&mut room[to..end], place);
+    write_place(&mut room[to..to + PLACE_SIZE], place);
 }
 
 // The bookings start at base, after the places.
@@ -209,8 +183,7 @@ pub fn load_booking(room: &[u8], base: usize, i: usize) -> Booking
     ensures { result ≡ booking_of (row booking_size (base + booking_size * i) room.now) }
 {
     let from = base + BOOKING_SIZE * i;
-    let end = from + BOOKING_SIZE;
-    read_booking(&room[from..end])
+    read_booking(&room[from..from + BOOKING_SIZE])
 }
 
 // Two bytes hold the owner, the number of a place.
@@ -221,8 +194,7 @@ pub fn store_booking(room: &mut [u8], base: usize, i: usize, booking: Booking)
     ensures fits { BookingFits booking }
 {
     let to = base + BOOKING_SIZE * i;
-    let end = to + BOOKING_SIZE;
-    write_booking(&mut room[to..end], booking);
+    write_booking(&mut room[to..to + BOOKING_SIZE], booking);
 }
 
 pub fn load_head(room: &[u8]) -> Head

@@ -4,13 +4,12 @@
 
 mod tenant_name;
 
-pub use tenant_name::{TenantName, no_tenant};
-
 ghost use Rattle.std.specs.Prelude.{◌≡◌};
 ghost use Rattle.rules.specs.AnswerNumbers.{reply_of};
 ghost use Rattle.refusals.specs.Answers.{refusal_of};
 
 use numbers::Microcents;
+pub use tenant_name::{TenantName, no_tenant};
 
 #[derive(Clone, Copy)]
 pub enum Refusal {

@@ -1,65 +1,64 @@
--- What a reserve, a commit and a release carry is at most M; a seat that they write is not vacant.
-use mathlib.Core.Path.{◌≡◌, refl}
+-- A seat that a reserve, a commit or a release writes is not vacant. And what a rule by value decides, of the amount that was asked for.
+use mathlib.Core.Path.{◌≡◌, sym}
 use mathlib.Core.Bool.{Bool, true, false, ◌&&◌}
+use mathlib.Core.List.{List}
 use mathlib.Core.Option.{Option, none, some}
-use Prim.Native.Nat.{ℕ, zero, suc, ◌+◌, ◌≤◌}
-use native.Mathlib.Omega.{arith}
-use borrow.Author.Tests.{ltb-false}
+use Prim.Native.Nat.{ℕ, zero, suc, ◌+◌}
 use lib.Dec.{ltb}
 use lib.IntN.{ℤ, pos, negsuc, ◌-ℤ◌}
 use lib.Signed.{lt_z}
-use Rattle.rules.specs.Lists.{All}
-use Rattle.rules.specs.RoomAndSoundLedger.{M, Account, is_vacant, has_account, AddsUp}
-use Rattle.rules.specs.AnswerNumbers.{Value, Amount, Identifier, Version, Fence, Count, Field, YesOrNo, TheName, SnapshotBytes, Refusal, reply_of}
-use Rattle.rules.specs.AccountRules.{Move, refuse, tell, write, lose, book, Settlement, leave, end, natural, reserve_rule, commit_rule, release_rule}
+use Rattle.std.specs.Prelude.{Some, Result}
+use Rattle.rules.specs.RoomAndSoundLedger.{M, Account, Seat, is_vacant, has_account}
+use Rattle.rules.specs.AccountRules.{Settlement, book, end, reserve_rule, commit_rule, release_rule}
 use Rattle.rules.proofs.Tests.{by-test}
+use Rattle.numbers.specs.Amounts.{sum_of, natural_of, positive_of}
+use Rattle.numbers.proofs.Amounts.{natural-some, positive-is, fits_sum}
+use Rattle.refusals.specs.declared.Refusal.{Refusal}
+use Rattle.moves.specs.declared.Seat.{Seat as RoomSeat}
+use Rattle.moves.specs.Moves.{account_of, reserving_move, committing_settlement}
+use Rattle.moves.proofs.Cases.{Asked, Passes, is-present}
 
-abbrev SmallValue : Value → Type 0
-SmallValue (Amount z) = natural z ≤ M
-SmallValue (Identifier n) = Unit {0}
-SmallValue (Version n) = Unit {0}
-SmallValue (Fence n) = Unit {0}
-SmallValue (Count n) = Unit {0}
-SmallValue (Field n) = Unit {0}
-SmallValue (YesOrNo b) = Unit {0}
-SmallValue (TheName a) = Unit {0}
-SmallValue (SnapshotBytes xs) = Unit {0}
-
-abbrev pub Small : Refusal → Type 0
-Small e = All SmallValue (reply_of e).carried
-
--- an id is drawn only where the next id is not M, and a booking made only for a name with an account
-abbrev pub MoveFits : (next_id_is_m : Bool) → Option Account → Move → Type 0
-MoveFits last c (refuse e) = Small e
-MoveFits last c (tell zs) = Unit {0}
-MoveFits last c (write zs s) = Unit {0}
-MoveFits last c (lose e) = Small e × (last ≡ false)
-MoveFits last c (book remaining s cost) = (last ≡ false) × (has_account c ≡ true) × (is_vacant s ≡ false)
-
-abbrev pub SettlementFits : Settlement → Type 0
-SettlementFits (leave e) = Small e
-SettlementFits (end zs s) = is_vacant s ≡ false
-
-pub reserve-fits : (last : Bool) (z : ℤ) (c : Option Account) (l : ℕ) → AddsUp c → l ≤ M → MoveFits last c (reserve_rule z last c l)
+pub reserve-keeps : (z : ℤ) (last : Bool) (c : Option Account) (l remaining cost : ℕ) (t : Seat) → book remaining t cost ≡ reserve_rule z last c l → is_vacant t ≡ false
 unfolding reserve_rule
-reserve-fits last (negsuc n) c l adds small = (omega arith, (omega arith, tt))
-reserve-fits last (pos zero) c l adds small = (omega arith, (omega arith, tt))
-reserve-fits last (pos (suc n)) none l adds small = tt
-reserve-fits last (pos (suc n)) (some c) l (e, m) small =
-    by-test (MoveFits last (some c)) (ltb M (c.reserved + suc n)) (λ t. (omega arith, tt))
-    (λ t. by-test (MoveFits last (some c)) (ltb 0 l && ltb l (c.reserved + suc n)) (λ u. (omega arith, (small, tt)))
-    (λ u. by-test (MoveFits last (some c)) last (λ v. (omega arith, tt))
-    (λ v. by-test (MoveFits last (some c)) (ltb c.remaining (suc n)) (λ w. ((omega arith, (omega (arith, ltb-false M (c.reserved + suc n) t), tt)), v)) (λ w. (v, refl, refl)))))
+reserve-keeps (negsuc n) last c l remaining cost t e = cc
+reserve-keeps (pos zero) last c l remaining cost t e = cc
+reserve-keeps (pos (suc n)) last none l remaining cost t e = cc
+reserve-keeps (pos (suc n)) last (some c) l remaining cost t e =
+    by-test (λ m. book remaining t cost ≡ m → is_vacant t ≡ false) (ltb M (c.reserved + suc n)) (λ _ q. cc)
+    (λ _. by-test (λ m. book remaining t cost ≡ m → is_vacant t ≡ false) (ltb 0 l && ltb l (c.reserved + suc n)) (λ _ q. cc)
+    (λ _. by-test (λ m. book remaining t cost ≡ m → is_vacant t ≡ false) last (λ _ q. cc)
+    (λ _. by-test (λ m. book remaining t cost ≡ m → is_vacant t ≡ false) (ltb c.remaining (suc n)) (λ _ q. cc) (λ _ q. cc)))) e
 
-pub commit-fits : (z : ℤ) (amount : ℕ) (c : Option Account) (l : ℕ) → AddsUp c → SettlementFits (commit_rule z (some amount) c l)
+-- the same of a rule for a reservation
+abbrev pub Keeps : (Option ℕ → Option Account → ℕ → Settlement) → Type 0
+Keeps rule = (amount : ℕ) (c : Option Account) (l : ℕ) (zs : List ℤ) (t : Seat) → end zs t ≡ rule (some amount) c l → is_vacant t ≡ false
+
+pub commit-keeps : (z : ℤ) → Keeps (commit_rule z)
 unfolding commit_rule
-commit-fits (negsuc n) amount c l adds = tt
-commit-fits (pos actual) amount none l adds = tt
-commit-fits (pos actual) amount (some c) l (e, m) =
-    by-test SettlementFits (ltb M (c.committed + actual)) (λ t. (omega arith, tt))
-    (λ t. by-test SettlementFits (lt_z (pos c.remaining) (pos actual -ℤ pos amount)) (λ u. (omega arith, tt)) (λ u. refl))
+commit-keeps (negsuc n) amount c l zs t e = cc
+commit-keeps (pos actual) amount none l zs t e = cc
+commit-keeps (pos actual) amount (some c) l zs t e =
+    by-test (λ m. end zs t ≡ m → is_vacant t ≡ false) (ltb M (c.committed + actual)) (λ _ q. cc)
+    (λ _. by-test (λ m. end zs t ≡ m → is_vacant t ≡ false) (lt_z (pos c.remaining) (pos actual -ℤ pos amount)) (λ _ q. cc) (λ _ q. cc)) e
 
-pub release-fits : (amount : ℕ) (c : Option Account) (l : ℕ) → SettlementFits (release_rule (some amount) c l)
+pub release-keeps : Keeps release_rule
 unfolding release_rule
-release-fits amount none l = tt
-release-fits amount (some c) l = refl
+release-keeps amount none l zs t e = cc
+release-keeps amount (some c) l zs t e = cc
+
+-- ── what was decided of a number is decided of the amount ──────────────────────────────────────
+
+pub reserve-decides : (z : ℤ) (n : ℕ) (last : Bool) (c : Option Account) (l : ℕ) (r : Result RoomSeat Refusal) → Some n ≡ positive_of z → reserving_move n r ≡ reserve_rule (pos n) last c l → reserving_move n r ≡ reserve_rule z last c l
+reserve-decides z n last c l r e q = rw (positive-is z n (sym e)).0 q
+
+pub commit-decides : (z : ℤ) (n : ℕ) (live : Option ℕ) (c : Option Account) (l : ℕ) (r : Result RoomSeat Refusal) → Some n ≡ natural_of z → committing_settlement (pos n) r ≡ commit_rule (pos n) live c l → committing_settlement z r ≡ commit_rule z live c l
+commit-decides z n live c l r e q = rw (natural-some z n (sym e)) q
+
+-- ── what the checks of a reserve leave ─────────────────────────────────────────────────────────
+
+module _ (s : RoomSeat) (z : ℤ) (n : ℕ) (amount : Some n ≡ positive_of z) where
+  pub asks : true ≡ has_account (account_of s) → Asked s z n
+  asks has = let is = positive-is z n (sym amount) in record { amount = is.0; positive = is.1; present = is-present s (sym has) }
+
+  pub passes : true ≡ has_account (account_of s) → (reserved : ℕ) → Some reserved ≡ sum_of s.reserved n → false ≡ (ltb 0 s.limit && ltb s.limit reserved) → Passes s z n reserved
+  passes has reserved sum within = let is = fits_sum s.reserved n reserved (sym sum) in record { asked = asks has; sum = is.0; fits = is.1; within = sym within }

@@ -1,48 +1,52 @@
 -- A reserve: what the code decides is the rule's move at the name's seat, and each answer performs it.
 use mathlib.Core.Path.{◌≡◌, refl, sym, ◌∙◌, ap, ap₂, subst}
-use mathlib.Core.Bool.{true, false, cond}
+use mathlib.Core.Bool.{Bool, true, false, cond}
 use mathlib.Core.List.{List, [], ◌∷◌, ◌++◌}
-use Prim.Native.Nat.{ℕ, ◌≤◌, ◌<◌}
+use Prim.Native.Nat.{ℕ, ◌^◌, ◌≤◌, ◌<◌}
 use native.Mathlib.Omega.{arith}
-use borrow.Author.Tests.{lt-ltb, le-ltb, eq-eqb, ne_eqb, eqb-false}
+use borrow.Author.Tests.{lt-ltb, le-ltb, eq-eqb, ne_eqb}
 use lib.IntN.{ℤ, pos}
-use lib.ListN.{length}
-use Rattle.rules.specs.RoomAndSoundLedger.{M, Name, Seat as RulesSeat, Place as RulesPlace, Ledger, with_places, with_bookings, seat_in, has_account, holds_place, AddsUp, longest_name}
-use Rattle.rules.specs.AnswerNumbers.{Amount, Identifier as TheIdentifier, Reply, done, NameTooLong, ReservationsFull, Insufficient, Refusal, reply_of, outcome, refused}
+use lib.ListN.{length, get_or}
+use lib.Signed.{mag}
+use mir.Syntax.{w8}
+use mir.Val.{Fits}
+use Rattle.std.specs.Prelude.{Option, Some, None, Result}
+use Rattle.std.proofs.lemmas.List.{length-take}
+use Rattle.rules.specs.RoomAndSoundLedger.{M, Name, Seat as RulesSeat, Ledger, with_places, with_bookings, seat_in, has_account, holds_place, longest_name}
+use Rattle.rules.specs.AnswerNumbers.{Amount, Identifier as TheIdentifier, Reply, done, NameTooLong, ReservationsFull, Refusal, reply_of, outcome, refused}
 use Rattle.rules.specs.AccountRules.{Move, refuse, lose, book, reserve_rule, next_id_is_m, reserve, operate, on_name, perform, drawn, seated}
 use Rattle.rules.specs.Domain.{IsBytes, IsAmount}
-use Rattle.rules.proofs.Places.{seat_in-all, account-holds}
+use Rattle.rules.proofs.Places.{account-holds}
 use Rattle.numbers.specs.declared.Identifier.{Identifier}
 use Rattle.numbers.specs.declared.Held.{Held}
-use Rattle.numbers.specs.declared.Drawing.TheVariants as drawing
+use Rattle.numbers.proofs.Bytes.{all-bytes}
+use Rattle.numbers.proofs.Amounts.{amount-fits}
+use Rattle.refusals.specs.declared.Refusal.{Refusal as TheRefusal}
+use Rattle.refusals.specs.Answers.{answer_of}
 use Rattle.moves.specs.Moves.{account_of, meaning, kept_seat, SeatSound}
 use Rattle.moves.specs.declared.Seat.{Seat}
-use Rattle.records.specs.declared.Place.{Place}
 use Rattle.records.specs.declared.Head.{Head}
 use Rattle.records.specs.Records.{booking, head_of}
 use Rattle.heads.specs.Heads.{identifier_at, after_draw, drawn_head}
 use Rattle.heads.specs.declared.Drawn.{Drawn}
 use Rattle.heads.proofs.Draws.{none_left, one_left, old-next-id, head-drawn}
-use Rattle.room.specs.Contents.{contents_of, used_places, place_of_name, with_head, appended_booking}
-use Rattle.room.specs.Room.{place_number, head_in, contents_in, IsRoom, Performed}
-use Rattle.room.specs.Seats.{seat_found, with_seat}
-use Rattle.room.specs.declared.Found.{Found}
-use Rattle.room.specs.declared.Found.TheVariants.{At, Absent}
-use Rattle.room.proofs.Numbers.{found_number, number-below}
+use Rattle.room.specs.Contents.{contents_of, Sized, used_places, place_of_name, with_head, appended_booking}
+use Rattle.room.specs.Room.{place_number, head_in, contents_in, IsRoom, SoundRoom, Performs}
+use Rattle.room.specs.Seats.{FoundIn, seat_found, with_seat}
+use Rattle.room.proofs.Numbers.{found_number}
 use Rattle.room.proofs.Steps.{id-drawn}
-use Rattle.room.proofs.Seating.{seat-found, kept-account, kept-limit, seat-sound}
+use Rattle.room.proofs.Seating.{seat-found, kept-account, kept-limit, seat-sound, seat-small}
 use Rattle.room.proofs.Settling.{booked-contents}
-use Rattle.room.proofs.SoundRoom.{head-is, places-are}
-use Rattle.reservations.specs.Answers.{reserved_reply}
+use Rattle.room.proofs.SoundRoom.{head-is, places-are, sized}
+use Rattle.tables.specs.Steps.{Becomes}
+use Rattle.lookup.proofs.Places.{seat-readable}
+use Rattle.reservations.specs.Answers.{carries_grant}
 use Rattle.reservations.specs.Steps.{Booked, granted, full}
-use Rattle.reservations.specs.declared.Reserved.{Reserved}
-use Rattle.reservations.proofs.Fitting.{MoveFits, reserve-fits}
+use Rattle.reservations.specs.declared.Granted.{Granted}
+use Rattle.reservations.proofs.Fitting.{reserve-keeps}
 use Rattle.reservations.proofs.Performing.{stays, becomes}
 
--- what a reserve is decided to be: the ledger's operation is that move
-pub record Decided (L : Ledger) (a : Name) (z : ℤ) (m : Move) : Type 0 where
-  pub move : operate L (reserve a z) ≡ perform L a m
-  pub fits : MoveFits (next_id_is_m L) (seat_in a L.places).account m
+-- ── what a booking comes to ────────────────────────────────────────────────────────────────────
 
 -- the ledger after a reserve that is granted
 abbrev booked_ledger : Ledger → Name → RulesSeat → ℕ → Ledger
@@ -60,101 +64,148 @@ module _ (L : Ledger) (a : Name) (remaining : ℕ) (s : RulesSeat) (cost : ℕ) 
   unfolding perform
   performed-full all = rw (le-ltb (length L.bookings) L.R all)
 
-module _ (xs : List ℕ) (L : Ledger) (room : IsRoom xs L) (a : Name) where
-  abbrev ps : List RulesPlace
-  ps = L.places
+-- ── what a reserve has seen when it asks the rule ──────────────────────────────────────────────
 
-  abbrev searched : List Place
-  searched = used_places (contents_of xs)
+-- the seat of a name that is not too long, and the draw of an id
+pub record Seen (xs : List ℕ) (a : Name) (found : Option ℕ) (s : Seat) (w : Drawn) : Type 0 where
+  pub sound : SoundRoom xs
+  pub short : length a ≤ longest_name
+  pub found_is : found ≡ place_of_name a (used_places (contents_of xs))
+  pub seat_is : s ≡ seat_found found (used_places (contents_of xs))
+  pub drew : w ≡ drawn_head (head_of xs)
 
-  -- the seat that is found is the name's, in its one form
-  pub seat_is : (f : Found) → f ≡ place_of_name a searched → (s : Seat) → s ≡ seat_found f searched → s ≡ kept_seat (seat_in a ps)
-  seat_is f e s q = q ∙ ap (λ g. seat_found g searched) e ∙ ap (λ qs. seat_found (place_of_name a qs) qs) (places-are xs L room) ∙ seat-found a ps
+-- the same, from what the test of the name's length, `find`, `seat_at`, `load_head` and `after_draw` say
+pub seen : {xs : List ℕ} {a : Name} {found : Option ℕ} {s : Seat} {h : Head} {w : Drawn} → SoundRoom xs → length a ≤ longest_name → found ≡ place_of_name a (used_places (contents_of xs))
+    → s ≡ seat_found found (used_places (contents_of xs)) → h ≡ head_of xs → w ≡ drawn_head h → Seen xs a found s w
+seen room short place there loaded drew = record { sound = room; short = short; found_is = place; seat_is = there; drew = drew ∙ ap drawn_head loaded }
 
-  pub found-sound : (f : Found) → f ≡ place_of_name a searched → (s : Seat) → s ≡ seat_found f searched → SeatSound s
-  found-sound f e s q = subst SeatSound (sym (seat_is f e s q)) (seat-sound L room.sound a)
+module _ {xs : List ℕ} {a : Name} {found : Option ℕ} {s : Seat} {w : Drawn} (looked : Seen xs a found s w) where
+  -- in the room of any ledger, the seat is the ledger's seat of the name
+  seen-seat : (L : Ledger) → IsRoom xs L → s ≡ kept_seat (seat_in a L.places)
+  seen-seat L room =
+      looked.seat_is
+      ∙ ap (λ f. seat_found f (used_places (contents_of xs))) looked.found_is
+      ∙ ap (λ ps. seat_found (place_of_name a ps) ps) (places-are xs L room)
+      ∙ seat-found a L.places
 
-  -- what was drawn says whether the next id is M
-  module _ (h : Head) (loaded : h ≡ head_of xs) where
-    next-is : h.next_id ≡ L.next_id
-    next-is = ap (λ (g : Head). g.next_id) (loaded ∙ head-is xs L room)
+  seen-account : (L : Ledger) → IsRoom xs L → account_of s ≡ (seat_in a L.places).account
+  seen-account L room = ap (λ t. account_of t) (seen-seat L room) ∙ kept-account (seat_in a L.places)
 
-    pub none-drawn : identifier_at h.next_id ≡ drawing.AllocatorExhausted → true ≡ next_id_is_m L
-    none-drawn e = sym (eq-eqb L.next_id M (omega (arith, next-is, none_left h.next_id e, room.sound.next_id)))
+  seen-limit : (L : Ledger) → IsRoom xs L → s.limit ≡ (seat_in a L.places).limit
+  seen-limit L room = ap (λ t. t.limit) (seen-seat L room) ∙ kept-limit (seat_in a L.places)
 
-    pub one-drawn : (id : Identifier) → identifier_at h.next_id ≡ drawing.Identifier id → false ≡ next_id_is_m L
-    one-drawn id e = sym (ne_eqb L.next_id M (λ q. omega (arith, next-is, one_left h.next_id id e)))
+  -- what the rule by value asks
+  pub seen-sound : SeatSound s
+  seen-sound = let L = looked.sound.ledger in let room = looked.sound.is_room in subst SeatSound (sym (seen-seat L room)) (seat-sound L room.sound a)
 
-    -- the next id is below M where it is not M
-    next-below : next_id_is_m L ≡ false → h.next_id < M
-    next-below f = let n : L.next_id ≡ M → ⊥ = eqb-false L.next_id M f in omega (arith, next-is, room.sound.next_id)
+  pub seen-sized : Sized xs
+  seen-sized = sized xs looked.sound.ledger looked.sound.is_room
 
-  -- a name with an account is found in its place
-  module _ (has : has_account (seat_in a ps).account ≡ true) where
-    holds : holds_place a ps ≡ true
-    holds = account-holds a ps has
+  -- ── a name with an account is found in its place ─────────────────────────────────────────────
 
-    pub found_at : place_of_name a searched ≡ At (place_number a ps)
-    found_at = ap (place_of_name a) (places-are xs L room) ∙ found_number a ps ∙ ap (λ b. cond b (At (place_number a ps)) Absent) holds
+  module _ (has : has_account (account_of s) ≡ true) where
+    holds : (L : Ledger) → IsRoom xs L → holds_place a L.places ≡ true
+    holds L room = account-holds a L.places (subst (λ c. has_account c ≡ true) (seen-account L room) has)
 
-    pub number_is : (i : ℕ) → At i ≡ place_of_name a searched → i ≡ place_number a ps
-    number_is i e = let p : At i ≡ At (place_number a ps) = e ∙ found_at in cc
+    found_at : (L : Ledger) → IsRoom xs L → found ≡ Some (place_number a L.places)
+    found_at L room = looked.found_is ∙ ap (place_of_name a) (places-are xs L room) ∙ found_number a L.places ∙ ap (λ b. cond b (Some (place_number a L.places)) None) (holds L room)
 
-    pub place-in-use : (i : ℕ) → At i ≡ place_of_name a searched → i < (contents_of xs).sizes.used
-    unfolding contents_in
-    place-in-use i e =
-        let n : (contents_of xs).sizes.used ≡ length ps = ap (λ c. c.sizes.used) room.holds in
-        omega (arith, number_is i e, number-below a ps holds)
+  place-in-use : (i : ℕ) → found ≡ Some i → i < (contents_of xs).sizes.used
+  place-in-use i e =
+      let within = subst (λ f. FoundIn f (used_places (contents_of xs))) e (seat-readable xs looked.sound a found looked.found_is).1 in
+      omega (arith, within, length-take (contents_of xs).sizes.used (contents_of xs).places)
 
-  module _ (z : ℤ) where
-    pub too_long : longest_name < length a → Performed (λ K. operate K (reserve a z)) L (reply_of NameTooLong) xs
-    too_long long = stays (reserve a z) L xs room _ (reply_of NameTooLong) (unfold operate on_name perform in rw (lt-ltb longest_name (length a) long)) refl
+  -- what the booking asks
+  pub ready : (t : Seat) → SeatSound t → (i : ℕ) → found ≡ Some i → Sized xs × (i < (contents_of xs).sizes.used) × (t.remaining ≤ M)
+  ready t known i e = (seen-sized, place-in-use i e, (seat-small t known).remaining)
 
-    pub decides : length a ≤ longest_name → (f : Found) → f ≡ place_of_name a searched → (s : Seat) → s ≡ seat_found f searched
-        → (m : Move) → m ≡ reserve_rule z (next_id_is_m L) (account_of s) s.limit → Decided L a z m
-    decides short f e s q m by-rule =
-        let own : RulesSeat = seat_in a ps in
+  -- ── what was drawn says whether the next id is M ─────────────────────────────────────────────
+
+  module _ (L : Ledger) (room : IsRoom xs L) where
+    next-is : (head_of xs).next_id ≡ L.next_id
+    next-is = ap (λ (g : Head). g.next_id) (head-is xs L room)
+
+    none-drawn : w.id ≡ None → true ≡ next_id_is_m L
+    none-drawn e =
+        let all = none_left (head_of xs).next_id (sym (ap (λ (d : Drawn). d.id) looked.drew) ∙ e) in
+        sym (eq-eqb L.next_id M (omega (arith, next-is, all, room.sound.next_id)))
+
+    module _ (id : Identifier) (e : w.id ≡ Some id) where
+      id-is : identifier_at (head_of xs).next_id ≡ Some id
+      id-is = sym (ap (λ (d : Drawn). d.id) looked.drew) ∙ e
+
+      one-drawn : false ≡ next_id_is_m L
+      one-drawn = let left = one_left (head_of xs).next_id id id-is in sym (ne_eqb L.next_id M (λ q. omega (arith, next-is, left)))
+
+      drawn-id : id.0 ≡ L.next_id
+      drawn-id = old-next-id (head_of xs).next_id id id-is ∙ next-is
+
+      -- the head after the draw
+      drawn-after : w.head ≡ head_in (drawn L)
+      drawn-after = ap (λ (d : Drawn). d.head) looked.drew ∙ head-drawn (head_of xs) (one_left (head_of xs).next_id id id-is) ∙ ap after_draw (head-is xs L room)
+
+-- ── the operation carried out ──────────────────────────────────────────────────────────────────
+
+module _ {xs : List ℕ} (a : Name) (z : ℤ) where
+  -- 19 before any rule
+  pub too_long : longest_name < length a → Performs (λ K. operate K (reserve a z)) xs (reply_of NameTooLong) xs
+  too_long long L room = stays (reserve a z) L xs room (reply_of NameTooLong) (unfold operate on_name perform in rw (lt-ltb longest_name (length a) long))
+
+  module _ {found : Option ℕ} {s : Seat} {w : Drawn} (looked : Seen xs a found s w) where
+    decided : (L : Ledger) → IsRoom xs L → (m : Move) → m ≡ reserve_rule z (next_id_is_m L) (account_of s) s.limit → operate L (reserve a z) ≡ perform L a m
+    decided L room m by-rule =
+        let own : RulesSeat = seat_in a L.places in
         let rule : Move = reserve_rule z (next_id_is_m L) own.account own.limit in
-        let is : m ≡ rule =
-        by-rule ∙ ap (λ t. reserve_rule z (next_id_is_m L) (account_of t) t.limit) (seat_is f e s q) ∙ ap₂ (λ c l. reserve_rule z (next_id_is_m L) c l) (kept-account own) (kept-limit own) in
-        let named : operate L (reserve a z) ≡ perform L a rule = unfold operate on_name in rw (le-ltb longest_name (length a) short) in
-        record {
-          move = named ∙ ap (perform L a) (sym is);
-          fits = subst (MoveFits (next_id_is_m L) own.account) (sym is)
-              (reserve-fits (next_id_is_m L) z own.account own.limit (seat_in-all (λ t. AddsUp t.account) ps tt room.sound.accounts_add_up a) (seat_in-all (λ t. t.limit ≤ M) ps (omega arith) room.sound.limits a));
-        }
+        let named : operate L (reserve a z) ≡ perform L a rule = unfold operate on_name in rw (le-ltb longest_name (length a) looked.short) in
+        named ∙ ap (perform L a) (sym (by-rule ∙ ap₂ (reserve_rule z (next_id_is_m L)) (seen-account looked L room) (seen-limit looked L room)))
 
-    -- a refusal
-    pub refuses : (e : Refusal) → Decided L a z (refuse e) → (t : Reply) → t ≡ reply_of e → Performed (λ K. operate K (reserve a z)) L t xs
-    refuses e d t q = stays (reserve a z) L xs room t (reply_of e) (d.move ∙ (unfold perform in refl)) q
+    -- refused, whatever was drawn
+    pub refuses : (e : Refusal) → ((last : Bool) → refuse e ≡ reserve_rule z last (account_of s) s.limit) → Performs (λ K. operate K (reserve a z)) xs (reply_of e) xs
+    unfolding perform
+    refuses e q L room = stays (reserve a z) L xs room (reply_of e) (decided L room (refuse e) (q (next_id_is_m L)))
 
-    module _ (bytes : IsBytes a) (amount : IsAmount z) (h : Head) (loaded : h ≡ head_of xs) (w : Drawn) (drew : w ≡ drawn_head h) where
-      -- the head after the draw, where an id was left
-      after : next_id_is_m L ≡ false → w.head ≡ head_in (drawn L)
-      after left = ap (λ (d : Drawn). d.head) drew ∙ head-drawn h (next-below h loaded left) ∙ ap after_draw (loaded ∙ head-is xs L room)
+    -- refused where no id was left
+    pub refuses_last : (e : Refusal) → w.id ≡ None → refuse e ≡ reserve_rule z true (account_of s) s.limit → Performs (λ K. operate K (reserve a z)) xs (reply_of e) xs
+    unfolding perform
+    refuses_last e none q L room =
+        stays (reserve a z) L xs room (reply_of e) (decided L room (refuse e) (q ∙ ap (λ last. reserve_rule z last (account_of s) s.limit) (none-drawn looked L room none)))
 
-      -- an id drawn and lost
-      pub loses : (remaining cost : ℕ) → Decided L a z (lose (Insufficient (pos remaining) (pos cost))) → (t : Reply) → t ≡ reply_of (Insufficient (pos remaining) (pos cost))
-          → (ys : List ℕ) → length ys ≡ length xs → contents_of ys ≡ with_head w.head (contents_of xs) → Performed (λ K. operate K (reserve a z)) L t ys
-      loses remaining cost d t q ys l k =
-          becomes (reserve a z) L xs room (bytes, amount) t (reply_of (Insufficient (pos remaining) (pos cost))) (drawn L) (d.move ∙ (unfold perform in refl)) q refl refl ys l
-          (k ∙ ap₂ with_head (after d.fits.1) room.holds ∙ id-drawn L)
+    -- an id was drawn
+    module _ (id : Identifier) (one : w.id ≡ Some id) (given : (i : ℕ) → Fits w8 (get_or a i 0)) (small : mag z < 2 ^ 63) where
+      fits : IsBytes a × IsAmount z
+      fits = (all-bytes a given, amount-fits z small)
 
-      pub books : (s : Seat) (cost : Held) (id : Identifier) → Decided L a z (book s.remaining (meaning s) cost.0) → SeatSound s → w.drawing ≡ drawing.Identifier id → (i : ℕ) → At i ≡ place_of_name a searched → {r : Reserved} {ys : List ℕ} → Booked i s cost id w.head xs r ys → Performed (λ K. operate K (reserve a z)) L (reserved_reply r) ys
-      unfolding contents_in
-      books s cost id d known named i e (granted remaining ys left p l k) =
-          let n : i ≡ place_number a ps = number_is d.fits.1 i e in
-          let g : w.head ≡ head_in (drawn L) = after d.fits.0 in
-          let is-next : id.0 ≡ L.next_id = old-next-id h.next_id id (sym (ap (λ (u : Drawn). u.drawing) drew) ∙ named) ∙ ap (λ (f : Head). f.next_id) (loaded ∙ head-is xs L room) in
-          let live : (contents_of xs).sizes.live ≡ length L.bookings = ap (λ c. c.sizes.live) room.holds in
-          let most : (contents_of xs).sizes.reservations ≡ L.R = ap (λ c. c.sizes.reservations) room.holds in
-          let fits : length L.bookings < L.R = omega arith in
-          let stepped : with_head w.head (appended_booking (record { id = id; amount = cost; owner = i }) (with_seat i s (contents_of xs)))
-          ≡ with_head (head_in (drawn L)) (appended_booking (booking L.next_id cost.0 (place_number a ps)) (with_seat (place_number a ps) s (contents_in L)))
-          = (λ j. with_head (g j) (appended_booking (booking (is-next j) cost.0 (n j)) (with_seat (n j) s (room.holds j)))) in
-          becomes (reserve a z) L xs room (bytes, amount) _ (granted_reply (pos s.remaining) L.next_id) (booked_ledger L a (meaning s) cost.0) (d.move ∙ performed-booking L a s.remaining (meaning s) cost.0 fits) (ap₂ granted_reply p is-next) refl refl ys l
-          (k ∙ stepped ∙ booked-contents L room.sound a s known d.fits.2 (holds d.fits.1) cost.0 fits)
-      books s cost id d known named i e (full n) =
-          let live : (contents_of xs).sizes.live ≡ length L.bookings = ap (λ c. c.sizes.live) room.holds in
-          let most : (contents_of xs).sizes.reservations ≡ L.R = ap (λ c. c.sizes.reservations) room.holds in
-          stays (reserve a z) L xs room _ (reply_of ReservationsFull) (d.move ∙ performed-full L a s.remaining (meaning s) cost.0 (omega arith)) refl
+      drew : (L : Ledger) → IsRoom xs L → (m : Move) → m ≡ reserve_rule z false (account_of s) s.limit → operate L (reserve a z) ≡ perform L a m
+      drew L room m q = decided L room m (q ∙ ap (λ last. reserve_rule z last (account_of s) s.limit) (one-drawn looked L room id one))
+
+      -- and is lost
+      pub loses : (e : Refusal) → lose e ≡ reserve_rule z false (account_of s) s.limit → (ys : List ℕ) → Becomes (with_head w.head) xs ys → Performs (λ K. operate K (reserve a z)) xs (reply_of e) ys
+      unfolding perform
+      loses e q ys (l, k) L room =
+          becomes (reserve a z) L xs room (reply_of e) fits (drawn L) (drew L room (lose e) q) refl refl ys l
+          (k ∙ ap₂ with_head (drawn-after looked L room id one) room.holds ∙ id-drawn L)
+
+      -- and is granted
+      module _ (t : Seat) (cost : Held) (q : book t.remaining (meaning t) cost.0 ≡ reserve_rule z false (account_of s) s.limit) (known : SeatSound t) (has : has_account (account_of s) ≡ true) (i : ℕ) (at : found ≡ Some i) where
+        counts : (L : Ledger) → IsRoom xs L → ((contents_of xs).sizes.live ≡ length L.bookings) × ((contents_of xs).sizes.reservations ≡ L.R)
+        unfolding contents_in
+        counts L room = (ap (λ c. c.sizes.live) room.holds, ap (λ c. c.sizes.reservations) room.holds)
+
+        pub books : {r : Result Granted TheRefusal} {ys : List ℕ} → Booked i t cost id w.head xs r ys → Performs (λ K. operate K (reserve a z)) xs (answer_of carries_grant r) ys
+        books (granted remaining ys left p l k) L room =
+            let number : i ≡ place_number a L.places = (let place : found ≡ Some (place_number a L.places) = found_at looked has L room in cc) in
+            let head : w.head ≡ head_in (drawn L) = drawn-after looked L room id one in
+            let next : id.0 ≡ L.next_id = drawn-id looked L room id one in
+            let sizes = counts L room in
+            let room_left : length L.bookings < L.R = omega arith in
+            let taken = reserve-keeps z false (account_of s) s.limit t.remaining cost.0 (meaning t) q in
+            let stepped : with_head w.head (appended_booking (record { id = id; amount = cost; owner = i }) (with_seat i t (contents_of xs)))
+            ≡ with_head (head_in (drawn L)) (appended_booking (booking L.next_id cost.0 (place_number a L.places)) (with_seat (place_number a L.places) t (contents_in L)))
+            = (λ j. with_head (head j) (appended_booking (booking (next j) cost.0 (number j)) (with_seat (number j) t (room.holds j)))) in
+            rw (p, next)
+            (becomes (reserve a z) L xs room (granted_reply (pos t.remaining) L.next_id) fits (booked_ledger L a (meaning t) cost.0)
+            (drew L room (book t.remaining (meaning t) cost.0) q ∙ performed-booking L a t.remaining (meaning t) cost.0 room_left) refl refl ys l
+            (k ∙ stepped ∙ booked-contents L room.sound a t known taken (holds looked has L room) cost.0 room_left))
+        books (full n) L room =
+            let sizes = counts L room in
+            stays (reserve a z) L xs room (reply_of ReservationsFull) (drew L room (book t.remaining (meaning t) cost.0) q ∙ performed-full L a t.remaining (meaning t) cost.0 (omega arith))

@@ -47,7 +47,14 @@ struct Due {
 
 // Document 01, Account rules, reserve, its last two answers: a full table refuses, and the id is not used up; else the booking has the id, and the head
 // after the draw is kept.
-fn book(room: &mut [u8], i: usize, seat: Seat, cost: Held, id: Identifier, head: Head) -> Result<Granted, Refusal>
+fn book(
+    room: &mut [u8],
+    i: usize,
+    seat: Seat,
+    cost: Held,
+    id: Identifier,
+    head: Head,
+) -> Result<Granted, Refusal>
     requires { Sized room.old × (i < (contents_of room.old).sizes.used) × (seat.remaining ≤ M) }
     ensures { Booked i seat cost id head room.old result room.new }
 {
@@ -122,12 +129,10 @@ fn due_at(room: &[u8], j: usize) -> Due
     let base = records::HEAD_SIZE + records::PLACE_SIZE * (sizes.names as usize);
     let booking = records::load_booking(room, base, j);
     let owner = booking.owner as usize;
-    let amount = booking.amount;
-    let seat = seats::seat_at(room, Some(owner));
     Due {
-        amount,
+        amount: booking.amount,
         owner,
-        seat,
+        seat: seats::seat_at(room, Some(owner)),
     }
 }
 

@@ -98,7 +98,12 @@ fn open_place(room: &mut [u8], part: &[u8], seat: Seat) -> Result<(), Refusal>
 }
 
 // A vacant seat frees the name's place; another is written where the name stands, or put in.
-pub fn write_seat(room: &mut [u8], part: &[u8], found: Option<usize>, seat: Seat) -> Result<(), Refusal>
+pub fn write_seat(
+    room: &mut [u8],
+    part: &[u8],
+    found: Option<usize>,
+    seat: Seat,
+) -> Result<(), Refusal>
     requires { SoundRoom room.old × (length part.now ≤ longest_name) × SeatSound seat
         × (found ≡ place_of_name part.now (used_places (contents_of room.old)))
         × (OfRoom room.old (λ L. is_vacant (meaning seat) ≡ true → (seat_in part.now L.places).account ≡ none)) }

@@ -1,5 +1,6 @@
 -- What `snapshot` answers on the room of a sound ledger is what the rules answer, and the bytes that it leaves are theirs: one law for each way that the rule
 -- goes, and that header, rows and old content together are the snapshot before the old content.
+use Rattle.std.specs.Prelude.{Result, Ok, Err}
 use mathlib.Core.Path.{◌≡◌, refl, sym, ◌∙◌, ap, ap₂, subst}
 use mathlib.Core.Bool.{true, false, not}
 use mathlib.Core.List.{List, [], ◌∷◌, ◌++◌, flat_map, append_assoc}
@@ -18,18 +19,18 @@ use Rattle.rules.proofs.Tests.{by-test, by_bool}
 use Rattle.rules.proofs.SnapshotSoundness.{answer-sound}
 use Rattle.rules.proofs.EveryLine.{own-snapshot-has-room}
 use Rattle.big_endian.specs.Layout.{snapshot_header, longest_row}
-use Rattle.records.specs.Records.{sizes_of}
+use Rattle.records.specs.Records.{head_of, sizes_of}
 use Rattle.records.specs.declared.Head.{Head}
 use Rattle.records.specs.declared.Sizes.{Sizes}
 use Rattle.heads.specs.Heads.{stamped_head}
-use Rattle.heads.specs.declared.Stamped.TheVariants as stamped
+use Rattle.refusals.specs.declared.Refusal.{Refusal}
+use Rattle.refusals.specs.declared.Refusal.TheVariants as refusal
+use Rattle.refusals.specs.Answers.{refusal_of, answer_of, carries_snapshot}
 use Rattle.snapshot_writer.specs.Rows.{header_bytes, WritesRows, account_bytes}
 use Rattle.snapshot_writer.specs.declared.Extent.{Extent}
 use Rattle.room.specs.Contents.{contents_of, with_head}
 use Rattle.room.specs.Room.{head_in, contents_in, IsRoom, Performed}
-use Rattle.room.proofs.SoundRoom.{sizes-are}
-use Rattle.snapshot_writer.specs.Output.{snapshot_reply}
-use Rattle.snapshot_writer.specs.declared.Snapshotted.TheVariants as snapshotted
+use Rattle.room.proofs.SoundRoom.{head-is, sizes-are}
 use Rattle.snapshot_writer.proofs.PlaceRows.{snapshot-size, rows-most}
 
 -- ── whether the output has room ────────────────────────────────────────────────────────────────
@@ -70,11 +71,11 @@ after-sound L known e = subst (λ (o : Outcome). Sound o.ledger) (writes L longe
 -- ── the head ───────────────────────────────────────────────────────────────────────────────────
 
 module _ (L : Ledger) where
-  stamp-exhausts : stamped_head (head_in L) ≡ stamped.AllocatorExhausted → next_id_is_m L ≡ true
-  stamp-exhausts = by-test (λ r. r ≡ stamped.AllocatorExhausted → next_id_is_m L ≡ true) (next_id_is_m L) (λ e _. e) (λ _ q. absurd (let z : ◌≡◌ {A = ℕ} 0 1 = cc in omega arith))
+  stamp-exhausts : (e : Refusal) → stamped_head (head_in L) ≡ Err e → (next_id_is_m L ≡ true) × (e ≡ refusal.AllocatorExhausted)
+  stamp-exhausts e = by-test (λ r. r ≡ Err e → (next_id_is_m L ≡ true) × (e ≡ refusal.AllocatorExhausted)) (next_id_is_m L) (λ last q. (last, cc)) (λ _ q. cc)
 
-  stamp-draws : (h : Head) → stamped_head (head_in L) ≡ stamped.Next h → (next_id_is_m L ≡ false) × (h ≡ head_in (after_snapshot L))
-  stamp-draws h = by-test (λ r. r ≡ stamped.Next h → (next_id_is_m L ≡ false) × (h ≡ head_in (after_snapshot L))) (next_id_is_m L) (λ _ q. absurd (let z : ◌≡◌ {A = ℕ} 0 1 = cc in omega arith)) (λ e q. (e, cc))
+  stamp-draws : (h : Head) → stamped_head (head_in L) ≡ Ok h → (next_id_is_m L ≡ false) × (h ≡ head_in (after_snapshot L))
+  stamp-draws h = by-test (λ r. r ≡ Ok h → (next_id_is_m L ≡ false) × (h ≡ head_in (after_snapshot L))) (next_id_is_m L) (λ _ q. cc) (λ e q. (e, cc))
 
   stamped-contents : with_head (head_in (after_snapshot L)) (contents_in L) ≡ contents_in (after_snapshot L)
   unfolding contents_in
@@ -84,7 +85,7 @@ module _ (L : Ledger) where
 
 -- the snapshot stands at the front of the output, and what stood past it stands there still
 abbrev pub WrittenInto : (before after : List ℕ) (end : ℕ) → Snapshot → Type 0
-WrittenInto before after end s = (take end after ≡ snapshot_bytes s) × (after ≡ output_after (snapshot_reply after (snapshotted.Written end)) before)
+WrittenInto before after end s = (take end after ≡ snapshot_bytes s) × (after ≡ output_after (answer_of (carries_snapshot after) (Ok end)) before)
 
 module _ (s : Snapshot) (before rows after : List ℕ) (e : Extent) (room : snapshot_header ≤ length before) (written : WritesRows s.rows before rows e)
     (header : after ≡ header_bytes s.version s.active e.rows ++ drop snapshot_header rows) where
@@ -109,10 +110,16 @@ promise : (size : ℕ) (L : Ledger) (o : Outcome) (r : Reply) (ys : List ℕ) �
 promise size L o r ys e q k = record { answer = q ∙ sym (ap (λ o. o.reply) e); room = subst (λ (o : Outcome). IsRoom ys o.ledger) (sym e) k }
 
 module _ (xs : List ℕ) (L : Ledger) (room : IsRoom xs L) where
-  pub answers-exhausted : (size : ℕ) → stamped_head (head_in L) ≡ stamped.AllocatorExhausted → Performed (snapshot size) L (reply_of AllocatorExhausted) xs
-  answers-exhausted size e = promise size L (refused AllocatorExhausted L) _ xs (exhausts L size (stamp-exhausts L e)) refl room
+  -- what the head of the room is stamped to
+  pub stamped-here : {h : Head} → h ≡ head_of xs → {r : Result Head Refusal} → r ≡ stamped_head h → stamped_head (head_in L) ≡ r
+  stamped-here loaded is = sym (is ∙ ap stamped_head (loaded ∙ head-is xs L room))
 
-  module _ (size : ℕ) (h : Head) (next : stamped_head (head_in L) ≡ stamped.Next h) where
+  pub answers-exhausted : (size : ℕ) (e : Refusal) → stamped_head (head_in L) ≡ Err e → Performed (snapshot size) L (reply_of (refusal_of e)) xs
+  answers-exhausted size e is =
+      let last = stamp-exhausts L e is in
+      promise size L (refused AllocatorExhausted L) _ xs (exhausts L size last.0) (ap (λ e. reply_of (refusal_of e)) last.1) room
+
+  module _ (size : ℕ) (h : Head) (next : stamped_head (head_in L) ≡ Ok h) where
     drawn : (next_id_is_m L ≡ false) × (h ≡ head_in (after_snapshot L))
     drawn = stamp-draws L h next
 

@@ -25,6 +25,7 @@ use Rattle.records.specs.Layout.{place_size, place_start}
 use Rattle.records.specs.Rows.{row}
 use Rattle.records.specs.Records.{sizes_of, place_of}
 use Rattle.records.specs.declared.Place.{Place}
+use Rattle.records.specs.declared.Sizes.{Sizes}
 use Rattle.room.specs.Contents.{contents_of, used_places}
 use Rattle.room.specs.Room.{place_with, place_record, IsRoom}
 use Rattle.rules.proofs.ByIndex.{all_read}
@@ -100,6 +101,10 @@ rows_few (p ∷ ps) (suc i) =
 
 pub count_most : (xs : List ℕ) (i : ℕ) → length (rows_to xs i) ≤ i
 count_most xs i = rows_few (used_places (contents_of xs)) i
+
+-- a place below as many as were loaded to be in use is in use
+pub place-counted : (xs : List ℕ) → {s : Sizes} → s ≡ sizes_of xs → {i : ℕ} → i < s.used → i < (sizes_of xs).used
+place-counted xs sizes h = omega (arith, ap (λ s. s.used) sizes)
 
 module _ (xs : List ℕ) (L : Ledger) (room : IsRoom xs L) where
   abbrev in_use : List Place

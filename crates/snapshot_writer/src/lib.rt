@@ -89,10 +89,8 @@ fn rows_size(room: &[u8]) -> usize
     let sizes = records::load_sizes(room);
     let used = sizes.used as usize;
     let mut size = 0;
-    let mut i = 0;
-    while i < used {
+    for i in 0..used {
         size += row_size(records::load_place(room, i));
-        i += 1;
     }
     size
 }
@@ -134,10 +132,8 @@ fn write_rows(room: &[u8], output: &mut [u8]) -> Extent
         rows: 0,
         end: rules::SNAPSHOT_HEADER,
     };
-    let mut i = 0;
-    while i < used {
+    for i in 0..used {
         extent = append_account(output, extent, records::load_place(room, i));
-        i += 1;
     }
     extent
 }

@@ -5,7 +5,7 @@ use Rattle.rules.specs.AnswerNumbers.{Reply, UnsoundLedger, reply_of, Outcome}
 use Rattle.refusals.specs.declared.Refusal.{Refusal}
 use Rattle.refusals.specs.declared.Refusal.TheVariants as refusal
 use Rattle.refusals.specs.Answers.{refusal_of}
-use Rattle.room.specs.Room.{IsRoom, SoundRoom, Performs, Answers}
+use Rattle.room.specs.Room.{SoundRoom, Performs, Answers}
 
 module _ (f : Ledger → Outcome) (before : List ℕ) where
   -- document 01, Answer numbers: memory that is not sound is refused with 24, and nothing changes

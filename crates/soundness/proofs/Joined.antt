@@ -1,5 +1,5 @@
 -- Numbers joined by `|`: the result is zero exactly where each of them is.
-use Rattle.std.proofs.Common.{◌≡◌, refl, sym, ap₂, ◌∙◌, List, [], ◌∷◌, ℕ, zero, suc, ◌≤◌, eqb, length, get_or, take, fold, arith}
+use Rattle.std.proofs.Common.{◌≡◌, refl, sym, ap₂, ◌∙◌, List, [], ◌∷◌, ℕ, zero, suc, ◌≤◌, eqb, length, take, fold, arith}
 use Rattle.std.proofs.Math.Seq.{length-take-le, get_or-take}
 use Rattle.std.specs.Int.Bits.{bit_or, or_add_and, and_le_l, and_le_r}
 use Rattle.soundness.specs.Facts.{Decides}

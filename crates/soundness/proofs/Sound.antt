@@ -1,7 +1,6 @@
 -- The rooms of which the facts hold are just the rooms of sound ledgers. So whatever decides the facts decides whether lent bytes are such a room.
-use mathlib.Core.Path.{◌≡◌}
 use mathlib.Core.Logic.{◌↔◌}
-use mathlib.Core.Bool.{Bool, true, false}
+use mathlib.Core.Bool.{Bool}
 use mathlib.Core.List.{List}
 use Prim.Native.Nat.{ℕ}
 use Rattle.rules.specs.Lists.{All}

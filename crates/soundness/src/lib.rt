@@ -259,10 +259,11 @@ pub fn is_sound(room: &[u8]) -> bool
 pub fn expect_sound(room: &[u8]) -> Result<(), Refusal>
     ensures { ExpectsSound room.now result }
 {
-    if !is_sound(room) {
-        return Err(Refusal::UnsoundLedger);
+    if is_sound(room) {
+        Ok(())
+    } else {
+        Err(Refusal::UnsoundLedger)
     }
-    Ok(())
 }
 
 // A fresh ledger (document 01, Room and the sound ledger): over zeros only the sizes and the next id are left to write.

@@ -2,13 +2,12 @@
 use mathlib.Core.Path.{◌≡◌, sym, ap, ap₂, ◌∙◌}
 use mathlib.Core.Logic.{inl}
 use mathlib.Core.List.{List, [], ◌∷◌, ◌++◌, map, append_assoc}
-use Prim.Native.Nat.{ℕ, zero, suc, ◌+◌, ◌-◌, ◌*◌, ◌≤◌, ◌<◌}
+use Prim.Native.Nat.{ℕ, zero, suc, ◌+◌, ◌-◌, ◌*◌, ◌≤◌}
 use native.Mathlib.Nat.{zero-add, suc-add, mul-suc, mul-add, mul-le-mul_left}
-use native.Mathlib.Numerals.{add-one}
 use native.Mathlib.Omega.{arith}
-use lib.ListN.{length, get_or, set, take, drop, length-drop, take-append-drop}
+use lib.ListN.{length, take, drop, length-drop, take-append-drop}
 use lib.Seq.{take_all, take-nil, drop-cons, drop-drop, drop-append-le}
-use Rattle.core.specs.List.{copy_within}
+use Rattle.std.specs.List.{copy_within}
 use Rattle.records.specs.Rows.{row, put, rows, table}
 use Rattle.records.proofs.Rows.{row-length, put-after, row_put, rows-within, table-length, table-apart, table-take, table-drop}
 use Rattle.room.specs.Contents.{closed}

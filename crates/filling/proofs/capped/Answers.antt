@@ -1,13 +1,21 @@
 -- `filling::capped` meets its contract: a sum above M is no sum to `numbers::plus`, and M is then the smaller.
-use mathlib.Core.Path.{sym, ◌∙◌}
+use mathlib.Core.Path.{◌≡◌, ◌∙◌, ap}
+use Prim.Native.Nat.{ℕ, ◌+◌, min}
 use native.Mathlib.Omega.{arith}
+use borrow.Author.Tests.{ltb-true, ltb-false}
+use lib.Dec.{ltb}
+use Rattle.std.specs.Prelude.{cond, None, Some}
+use Rattle.std.specs.Option.{unwrap_or}
 use Rattle.rules.specs.RoomAndSoundLedger.{M}
-use Rattle.numbers.proofs.Amounts.{above-sum, fits_sum}
+use Rattle.rules.proofs.Tests.{by-test}
+use Rattle.numbers.specs.Amounts.{sum_of}
 use Rattle.filling.proofs.capped.Goals as goal
 
-pub returns-in_default : goal.returns-in_default
-unfolding M
-returns-in_default c = let a = c.args in omega (arith, above-sum a.total a.more (sym c.plus.ensures ∙ c.in_default.is))
+lesser : (a b : ℕ) → unwrap_or (sum_of a b) M ≡ min (a + b) M
+lesser a b = by-test (λ o. unwrap_or o M ≡ min (a + b) M) (ltb M (a + b))
+    (λ t. omega (arith, ltb-true M (a + b) t))
+    (λ t. omega (arith, ltb-false M (a + b) t))
 
 pub returns : goal.returns
-returns c = omega (arith, fits_sum _ _ _ (sym c.plus.ensures ∙ c.in-Fits.is))
+unfolding M
+returns c = c.unwrap_or.ensures ∙ ap (λ o. unwrap_or o M) c.plus.ensures ∙ lesser c.args.total c.args.more

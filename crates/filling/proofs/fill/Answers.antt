@@ -5,7 +5,7 @@ use Rattle.rules.specs.RoomAndSoundLedger.{fence_of, fresh}
 use Rattle.room.specs.Room.{IsRoom, OfRoom}
 use Rattle.snapshot_reader.specs.Standing.{OfSnapshot}
 use Rattle.room.proofs.SoundRoom.{sized}
-use Rattle.soundness.specs.Making.{made_reply}
+use Rattle.refusals.specs.Answers.{answer_of, carries_nothing}
 use Rattle.filling.specs.Filling.{PutsRows}
 use Rattle.filling.proofs.Renewing.{made-anew, empty-takes, head-written}
 use Rattle.filling.proofs.fill.Lts as place
@@ -25,7 +25,7 @@ abbrev entry : After-make → Start
 entry c = c.before.before.before.before.before
 
 emptied : (c : After-make) → OfRoom (entry c).args.room.now (λ L. IsRoom c.make.new.room (fresh L.T L.R))
-emptied c L room = made-anew (entry c).args.room.now c.make.new.room L room c.load_sizes-sizes.result c.load_sizes-sizes.ensures (made_reply c.make.result) c.make.ensures
+emptied c L room = made-anew (entry c).args.room.now c.make.new.room L room c.load_sizes-sizes.result c.load_sizes-sizes.ensures (answer_of carries_nothing c.make.result) c.make.ensures
 
 pub put_rows-baseline-requires : goal.put_rows-baseline-requires
 put_rows-baseline-requires c =

@@ -7,4 +7,4 @@ use Rattle.frames.proofs.certificate.Goals as goal
 
 pub returns : goal.returns
 unfolding answer
-returns c L room = performed (c.of_ledger-certified.ensures L room) c.write_certified.ensures refl
+returns c L room = performed (c.of_ledger.ensures L room) c.write_answer.ensures refl

@@ -4,4 +4,4 @@ use Rattle.answer_bytes.proofs.Arms.{matched}
 use Rattle.frames.proofs.certificate_of_snapshot.Goals as goal
 
 pub returns : goal.returns
-returns c s e = matched (sym (c.of_supplied-certified.ensures s e)) c.write_certified.ensures
+returns c s e = matched (sym (c.of_supplied.ensures s e)) c.write_answer.ensures

@@ -7,4 +7,4 @@ use Rattle.frames.proofs.commit.Goals as goal
 
 pub returns : goal.returns
 unfolding answer
-returns c L room = performed (c.commit-answer.ensures L room) c.write_committed.ensures refl
+returns c L room = performed (c.commit.ensures L room) c.write_answer.ensures refl

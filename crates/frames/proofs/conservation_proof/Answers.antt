@@ -7,4 +7,4 @@ use Rattle.frames.proofs.conservation_proof.Goals as goal
 
 pub returns : goal.returns
 unfolding answer
-returns c L room = performed (c.prove-proved.ensures L room) c.write_proved.ensures refl
+returns c L room = performed (c.prove.ensures L room) c.write_answer.ensures refl

@@ -7,4 +7,4 @@ use Rattle.frames.proofs.ensure.Goals as goal
 
 pub returns : goal.returns
 unfolding answer
-returns c L room = performed (c.ensure-answer.ensures L room) c.write_ensured.ensures refl
+returns c L room = performed (c.ensure.ensures L room) c.write_answer.ensures refl

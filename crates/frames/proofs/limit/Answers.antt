@@ -7,4 +7,4 @@ use Rattle.frames.proofs.limit.Goals as goal
 
 pub returns : goal.returns
 unfolding answer
-returns c L room = performed (c.limit-answer.ensures L room) c.write_limited.ensures refl
+returns c L room = performed (c.limit.ensures L room) c.write_answer.ensures refl

@@ -7,4 +7,4 @@ use Rattle.frames.proofs.recovery_restore.Goals as goal
 
 pub returns : goal.returns
 unfolding answer
-returns c s e L room = performed (c.recovery_restore-judged.ensures.performs s e L room) c.write_judged.ensures refl
+returns c s e L room = performed (c.recovery_restore.ensures s e L room) c.write_answer.ensures refl

@@ -7,4 +7,4 @@ use Rattle.frames.proofs.release.Goals as goal
 
 pub returns : goal.returns
 unfolding answer
-returns c L room = performed (c.release-answer.ensures L room) c.write_released.ensures refl
+returns c L room = performed (c.release.ensures L room) c.write_answer.ensures refl

@@ -7,4 +7,4 @@ use Rattle.frames.proofs.reserve.Goals as goal
 
 pub returns : goal.returns
 unfolding answer
-returns c L room = performed (c.reserve-answer.ensures L room) c.write_reserved.ensures refl
+returns c L room = performed (c.reserve.ensures L room) c.write_answer.ensures refl

@@ -7,4 +7,4 @@ use Rattle.frames.proofs.restore.Goals as goal
 
 pub returns : goal.returns
 unfolding answer
-returns c s e L room = performed (c.restore-judged.ensures.performs s e L room) c.write_judged.ensures refl
+returns c s e L room = performed (c.restore.ensures s e L room) c.write_answer.ensures refl

@@ -4,4 +4,4 @@ use Rattle.answer_bytes.proofs.Arms.{matched}
 use Rattle.frames.proofs.status.Goals as goal
 
 pub returns : goal.returns
-returns c s e = matched (sym (c.status-judged.ensures.answer s e)) c.write_judged.ensures
+returns c s e = matched (sym (c.status.ensures s e)) c.write_answer.ensures

@@ -7,4 +7,4 @@ use Rattle.frames.proofs.top_up.Goals as goal
 
 pub returns : goal.returns
 unfolding answer
-returns c L room = performed (c.top_up-answer.ensures L room) c.write_topped_up.ensures refl
+returns c L room = performed (c.top_up.ensures L room) c.write_answer.ensures refl

@@ -1,20 +1,19 @@
--- `reads::committed_total` meets its contract: the sum over the places is the ledger's total, or says that it is above M (Totals).
-use mathlib.Core.Path.{sym, ◌∙◌, ap}
+-- `reads::committed_total` meets its contract: the sum over the places is the ledger's total, or tells that it is above M.
+use mathlib.Core.Path.{◌∙◌, ap}
 use mathlib.Core.List.{[], ◌∷◌}
-use Rattle.rules.specs.RoomAndSoundLedger.{committed_total}
+use Rattle.std.proofs.lemmas.Result.{err_from_is_err_and}
 use Rattle.rules.specs.AnswerNumbers.{Amount, done}
-use Rattle.reads.proofs.Totals.{summed-fits, total-reads, total-overflows}
+use Rattle.reads.proofs.Totals.{total-reads, total-small}
 use Rattle.reads.proofs.committed_total.Goals as goal
 
-pub returns-in_default : goal.returns-in_default
-returns-in_default c L room = total-overflows c.args.room.now L room c.sum_committed.result (c.sum_committed.ensures L room) c.in_default.is
+pub returns-in_err-total : goal.returns-in_err-total
+returns-in_err-total c L room =
+    let p = err_from_is_err_and c.from_residual.result c.from_residual.ensures.1 in
+    rw (p.1, p.2) (total-reads L _ (c.sum_committed.ensures L room) _ c.in_err-total.ensures.value)
 
 pub amount-requires : goal.amount-requires
-amount-requires c =
-    let sound = c.requires in
-    (summed-fits (committed_total sound.ledger.places) c.in-Fits.total (sym (c.sum_committed.ensures sound.ledger sound.is_room) ∙ c.in-Fits.is)).1
+amount-requires c = total-small _ c.requires _ c.sum_committed.ensures _ c.in_ok-total.ensures.value
 
 pub returns : goal.returns
 returns c L room =
-    ap (λ z. done (Amount z ∷ [])) c.amount.ensures
-    ∙ total-reads c.args.room.now L room c.sum_committed.result c.in-Fits.total (c.sum_committed.ensures L room) c.in-Fits.is
+    ap (λ z. done (Amount z ∷ [])) c.amount.ensures ∙ total-reads L _ (c.sum_committed.ensures L room) _ c.in_ok-total.ensures.value

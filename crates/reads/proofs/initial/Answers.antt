@@ -1,19 +1,22 @@
--- `reads::initial` meets its contract: as for `committed`, with another amount.
-use mathlib.Core.Path.{◌∙◌}
-use Rattle.rules.specs.AccountRules.{operate, read_rule}
-use Rattle.reads.proofs.Seeking.{read-long, read-account, sought-small}
+-- `reads::initial` meets its contract: of the ledger's seat of the name it tells what the rule reads, or the same refusal.
+use mathlib.Core.Path.{◌∙◌, ap}
+use mathlib.Core.List.{[], ◌∷◌}
+use Rattle.std.proofs.lemmas.Result.{err_from_is_err_and}
+use Rattle.rules.specs.AnswerNumbers.{Amount, done}
+use Rattle.rules.specs.AccountRules.{operate}
+use Rattle.reads.proofs.Seeking.{read-account, account-small}
 use Rattle.reads.proofs.initial.Goals as goal
 
-pub returns-in_default : goal.returns-in_default
+pub returns-in_err-seat : goal.returns-in_err-seat
 unfolding operate
-returns-in_default c L room =
-    read-long L c.args.part.now (read_rule (λ a. a.initial)) c.seek.result (c.seek.ensures L room) c.in_default.is
+returns-in_err-seat c L room =
+    let p = err_from_is_err_and c.from_residual.result c.from_residual.ensures.1 in
+    rw (p.1, p.2) (read-account L _ (λ a. a.initial) _ (c.in_err-seat.ensures L room))
 
-pub of_account-requires : goal.of_account-requires
-of_account-requires c =
-    (sought-small c.args.room.now c.args.part.now c.in-Seat.seat c.seek.result c.requires c.seek.ensures c.in-Seat.is).initial
+pub amount-requires : goal.amount-requires
+amount-requires c = (account-small _ c.requires _ _ c.in_ok-seat.ensures).initial
 
 pub returns : goal.returns
 unfolding operate
 returns c L room =
-    c.of_account.ensures ∙ read-account L c.args.part.now c.in-Seat.seat c.seek.result (c.seek.ensures L room) c.in-Seat.is (λ a. a.initial)
+    ap (λ z. done (Amount z ∷ [])) c.amount.ensures ∙ read-account L _ (λ a. a.initial) _ (c.in_ok-seat.ensures L room)

@@ -1,48 +1,29 @@
--- `reads::sum_committed` meets its contract. The invariant: the total is the sum over the places passed, and not above M.
-use mathlib.Core.Path.{◌≡◌, sym, ◌∙◌, ap}
+-- `reads::sum_committed` meets its contract: each place adds what it has committed, and a part of the total that is above M says that all of it is.
+use mathlib.Core.Path.{sym, ◌∙◌}
+use Prim.Native.Nat.{◌+◌}
 use native.Mathlib.Omega.{arith}
-use Rattle.numbers.proofs.Amounts.{above-sum, fits_sum}
-use Rattle.records.specs.Records.{sizes_of}
-use Rattle.room.specs.Contents.{Sized}
 use Rattle.room.proofs.SoundRoom.{sized}
-use Rattle.reads.proofs.Sums.{sum-none, sum-next}
-use Rattle.reads.proofs.Totals.{committed_in, sum_is, sum-above}
-use Rattle.reads.proofs.sum_committed.Lts as place
-use Rattle.reads.proofs.sum_committed.Tie as tie
+use Rattle.reads.proofs.Sums.{sum-none}
+use Rattle.reads.proofs.Totals.{committed_in, summed-above, summed-of, above-summed, within-summed, place-within, place-adds, committed-part, committed-all}
 use Rattle.reads.proofs.sum_committed.Goals as goal
 
-abbrev Start : Type 0
-Start = place.Start tie.the-claims tie.handed_pre tie.handed_post goal.the-invariant-loop-i goal.the-decreases-loop-i
-
-abbrev After-load_sizes-sizes : Type 0
-After-load_sizes-sizes = place.After-load_sizes tie.the-claims tie.handed_pre tie.handed_post goal.the-invariant-loop-i goal.the-decreases-loop-i
-
-in_use : (c : After-load_sizes-sizes) → c.load_sizes-sizes.result.used ≡ (sizes_of c.args.room.now).used
-in_use c = ap (λ s. s.used) c.load_sizes-sizes.ensures
-
-size : (c : Start) → Sized c.args.room.now
-size c = sized c.args.room.now c.requires.ledger c.requires.is_room
-
-pub load_sizes-sizes-requires : goal.load_sizes-sizes-requires
-load_sizes-sizes-requires c = omega (arith, (size c.before.before).size)
-
 pub loop-i-init : goal.loop-i-init
-loop-i-init c = (omega arith, sym (sum-none committed_in c.args.room.now (size c.before.before.before)), omega arith)
+loop-i-init c = record { sum = sym (sum-none committed_in _ (sized _ _ c.requires.is_room)); small = omega arith }
 
 pub load_place-place-requires : goal.load_place-place-requires
-load_place-place-requires c = let z = size c.before.before.before.before.before in omega (arith, z, in_use c.before.before.before)
+load_place-place-requires c = place-within _ c.requires _ c.load_sizes-sizes.ensures _ c.loop-i-test.true
 
-pub returns-in_default : goal.returns-in_default
-returns-in_default c L room =
-    sum-above c.args.room.now L room c.loop-i.i c.loop-i.total (omega (arith, in_use c.before.before.before.before.before.before, c.loop-i-test.true)) c.loop-i.invariant.1
-    (omega (arith, above-sum c.loop-i.total c.load_place-place.result.committed (sym c.plus.ensures ∙ c.in_default.is), ap committed_in c.load_place-place.ensures))
+pub returns-in_err-total : goal.returns-in_err-total
+returns-in_err-total c L room =
+    let above = above-summed (c.loop-i.total + c.load_place-place.result.committed) c.in_err-total.ensures in
+    let next = place-adds _ c.requires _ c.load_sizes-sizes.ensures _ c.loop-i-test.true committed_in _ c.load_place-place.ensures in
+    rw c.from_residual.ensures (summed-above _ (omega (arith, above, next, c.loop-i.invariant.sum, committed-part _ L room (c.loop-i.i + 1))))
 
 pub loop-i-preserved : goal.loop-i-preserved
 loop-i-preserved c =
-    let f = fits_sum c.loop-i.total c.load_place-place.result.committed c.in-Fits.more (sym c.plus.ensures ∙ c.in-Fits.is) in
-    let next = sum-next committed_in c.args.room.now (size c.before.before.before.before.before.before.before.before) c.loop-i.i (omega (arith, in_use c.before.before.before.before.before.before, c.loop-i-test.true)) in
-    (omega (arith, c.loop-i-test.true), omega (arith, f.0, c.loop-i.invariant.1, ap committed_in c.load_place-place.ensures, next), omega (arith, f))
+    let added = within-summed (c.loop-i.total + c.load_place-place.result.committed) c.in_ok-total.total c.in_ok-total.ensures in
+    let next = place-adds _ c.requires _ c.load_sizes-sizes.ensures _ c.loop-i-test.true committed_in _ c.load_place-place.ensures in
+    record { sum = omega (arith, added.0, next, c.loop-i.invariant.sum); small = added.1 }
 
 pub returns : goal.returns
-returns c L room =
-    sum_is c.args.room.now L room c.loop-i.i c.loop-i.total (omega (arith, in_use c.before.before.before)) c.loop-i.invariant.1 c.loop-i.invariant.2
+returns c L room = summed-of _ _ (c.loop-i.invariant.sum ∙ committed-all _ L room _ c.load_sizes-sizes.ensures _ c.loop-i-test.false) c.loop-i.invariant.small

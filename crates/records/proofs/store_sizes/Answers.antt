@@ -7,17 +7,14 @@ use Rattle.records.specs.Layout.{reservations_offset, counts_offset, capacity_of
 use Rattle.records.specs.Rows.{put}
 use Rattle.records.specs.Records.{pair_bytes}
 use Rattle.records.proofs.Fields.{fields-written}
-use borrow.Author.Rules.{rules}
 use Rattle.records.proofs.store_sizes.Goals as goal
 
-pub returns : goal.returns
-returns c =
+pub returns-clause-stored : goal.returns-clause-stored
+returns-clause-stored c =
     let room = c.args.room.now in
     let z = c.args.sizes in
     let names : _ ≡ little_bytes 8 z.names = c.write8.ensures in
-    let reservations : _ ≡ little_bytes 8 z.reservations = c.write8-2.ensures in record {
-      stored = c.store_counts.ensures.stored
-          ∙ (λ j. put counts_offset pair_size (put reservations_offset 8 (put capacity_offset 8 room (names j)) (reservations j)) (pair_bytes z.used z.live))
-          ∙ ap (λ ys. put counts_offset pair_size ys (pair_bytes z.used z.live)) (fields-written capacity_offset pair_widths (z.names ∷ z.reservations ∷ []) room refl (omega (arith, c.requires)));
-      fits = search rules;
-    }
+    let reservations : _ ≡ little_bytes 8 z.reservations = c.write8-2.ensures in
+    c.store_counts.ensures.stored
+    ∙ (λ j. put counts_offset pair_size (put reservations_offset 8 (put capacity_offset 8 room (names j)) (reservations j)) (pair_bytes z.used z.live))
+    ∙ ap (λ ys. put counts_offset pair_size ys (pair_bytes z.used z.live)) (fields-written capacity_offset pair_widths (z.names ∷ z.reservations ∷ []) room refl (omega (arith, c.requires)))

@@ -22,44 +22,8 @@ returns c =
     let limit : _ ≡ little_bytes 8 p.limit = c.write8-5.ensures in
     let account : _ ≡ little_bytes 1 p.account = c.write1.ensures in
     let length : _ ≡ little_bytes 1 p.name.length = c.write1-2.ensures in
-    let bytes : _ ≡ p.name.bytes = c.write_name_bytes.ensures in
+    let bytes : _ ≡ p.name.bytes = c.copy_from_slice.ensures.after in
     (λ j. put name_bytes_offset longest_name (put name_offset 1 (put account_offset 1 (put limit_offset 8 (put committed_offset 8 (put reserved_offset 8 (put remaining_offset 8 (put 0 8 part (initial j)) (remaining j)) (reserved j)) (committed j)) (limit j)) (account j)) (length j)) (bytes j))
     ∙ ap (λ xs. put name_bytes_offset longest_name xs p.name.bytes) (fields-written 0 place_widths (place_numbers p) part refl (omega (arith, c.requires)))
     ∙ put_next 0 name_bytes_offset part front (omega (arith, c.requires)) (fields-length place_widths (place_numbers p) refl) longest_name p.name.bytes
     ∙ put_all place_size part (place_bytes p) c.requires
-
--- each store leaves the part as long as it was
-pub shape_of-part : goal.shape_of-part
-shape_of-part c =
-    c.part-8-1.given.1
-    ∙ c.part-7-1.given.1
-    ∙ c.part-6-1.given.1
-    ∙ c.part-5-1.given.1
-    ∙ c.part-4-1.given.1
-    ∙ c.part-3-1.given.1
-    ∙ c.part-2-1.given.1
-    ∙ c.part-1.given.1
-
-pub write8-requires : goal.write8-requires
-write8-requires c = c.write8-arg-1.given.2
-
-pub write8-requires-2 : goal.write8-requires-2
-write8-requires-2 c = c.write8-arg-2-1.given.2
-
-pub write8-requires-3 : goal.write8-requires-3
-write8-requires-3 c = c.write8-arg-3-1.given.2
-
-pub write8-requires-4 : goal.write8-requires-4
-write8-requires-4 c = c.write8-arg-4-1.given.2
-
-pub write8-requires-5 : goal.write8-requires-5
-write8-requires-5 c = c.write8-arg-5-1.given.2
-
-pub write1-requires : goal.write1-requires
-write1-requires c = c.write1-arg-1.given.2
-
-pub write1-requires-2 : goal.write1-requires-2
-write1-requires-2 c = c.write1-arg-2-1.given.2
-
-pub write_name_bytes-requires : goal.write_name_bytes-requires
-write_name_bytes-requires c = c.write_name_bytes-arg-1.given.2

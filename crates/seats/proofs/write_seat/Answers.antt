@@ -1,5 +1,5 @@
 -- `seats::write_seat` meets its contract: one lemma for each way of writing.
-use mathlib.Core.Path.{◌∙◌, sym}
+use mathlib.Core.Path.{sym}
 use Rattle.room.proofs.SoundRoom.{sized}
 use Rattle.seats.proofs.Places.{found-held, found_nowhere, found-in-use, keeps, frees, leaves}
 use Rattle.seats.proofs.write_seat.Goals as goal

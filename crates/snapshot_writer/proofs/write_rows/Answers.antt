@@ -1,33 +1,22 @@
 -- `snapshot_writer::write_rows` meets its contract. The invariant: the rows of the places passed are written. What the requirement says of all rows bounds
 -- those passed (PlaceRows).
-use mathlib.Core.Path.{◌≡◌, refl, sym, ◌∙◌, ap, subst}
+use mathlib.Core.Path.{◌≡◌, sym, ◌∙◌, ap, subst}
 use mathlib.Core.List.{List, ◌++◌}
-use Prim.Native.Nat.{◌+◌, ◌<◌}
+use Prim.Native.Nat.{◌+◌}
 use native.Mathlib.Omega.{arith}
 use Rattle.rules.specs.SnapshotsMigrationCertificates.{Row}
-use Rattle.records.specs.Records.{sizes_of}
 use Rattle.snapshot_writer.specs.Rows.{WritesRows}
 use Rattle.snapshot_writer.specs.Output.{row_of_place, row_size}
-use Rattle.snapshot_writer.proofs.PlaceRows.{rows_to, none_written, count_most, used-most, place-in-room, rows_next, size-next, rows_all, size-within}
-use Rattle.snapshot_writer.proofs.write_rows.Lts as place
-use Rattle.snapshot_writer.proofs.write_rows.Tie as tie
+use Rattle.snapshot_writer.proofs.PlaceRows.{rows_to, none_written, count_most, used-most, place-counted, place-in-room, rows_next, size-next, rows_all, size-within}
 use Rattle.snapshot_writer.proofs.write_rows.Goals as goal
 
-abbrev After-load_sizes-sizes : Type 0
-After-load_sizes-sizes = place.After-load_sizes tie.the-claims tie.handed_pre tie.handed_post goal.the-invariant-loop-i goal.the-decreases-loop-i tie.handed_clauses
-
-abbrev In-loop-i : Type 0
-In-loop-i = place.In-loop tie.the-claims tie.handed_pre tie.handed_post goal.the-invariant-loop-i goal.the-decreases-loop-i tie.handed_clauses
-
-in_use : (c : After-load_sizes-sizes) → c.load_sizes-sizes.result.used ≡ (sizes_of c.args.room.now).used
-in_use c = ap (λ s. s.used) c.load_sizes-sizes.ensures
-
-below : (c : In-loop-i) → c.loop-i.i < (sizes_of c.args.room.now).used
-below c = omega (arith, in_use c.before.before, c.loop-i-test.true)
+pub loop-i-init : goal.loop-i-init
+loop-i-init c = none_written c.args.room.now c.args.output.now
 
 pub load_place-requires : goal.load_place-requires
 load_place-requires c =
-    (place-in-room c.args.room.now c.requires.0.ledger c.requires.0.is_room c.loop-i.i (below c.before.before)).0
+    let room = c.args.room.now in
+    (place-in-room room c.requires.0.ledger c.requires.0.is_room c.loop-i.i (place-counted room c.load_sizes-sizes.ensures c.loop-i-test.true)).0
 
 pub append_account-extent-requires : goal.append_account-extent-requires
 append_account-extent-requires c =
@@ -35,10 +24,10 @@ append_account-extent-requires c =
     let L = c.requires.0.ledger in
     let r = c.requires.0.is_room in
     let i = c.loop-i.i in
-    let within = below c.before.before.before in
-    let written = c.loop-i.invariant.2 in
+    let within = place-counted room c.load_sizes-sizes.ensures c.loop-i-test.true in
+    let written = c.loop-i.invariant in
     record {
-      room = omega (arith, written.end, size-next room L r i within, ap row_size c.load_place.ensures, size-within room L r (i + 1), c.requires.1 L r, c.loop-i.invariant.1);
+      room = omega (arith, written.end, size-next room L r i within, ap row_size c.load_place.ensures, size-within room L r (i + 1), c.requires.1 L r, c.loop-i.auto.output);
       short = omega (arith, (place-in-room room L r i within).1, ap (λ p. p.name.length) c.load_place.ensures);
       few = omega (arith, written.rows, count_most room i, used-most room L r);
     }
@@ -46,21 +35,13 @@ append_account-extent-requires c =
 pub loop-i-preserved : goal.loop-i-preserved
 loop-i-preserved c =
     let room = c.args.room.now in
-    let next = rows_next room c.requires.0.ledger c.requires.0.is_room c.loop-i.i (below c.before.before.before.before.before.before) in (
-      omega (arith, c.loop-i-test.true),
-      c.append_account-extent.auto.output ∙ c.loop-i.invariant.1,
-      subst (λ (rs : List Row). WritesRows rs c.args.output.now c.append_account-extent.new.output c.append_account-extent.result)
-          (ap (λ p. rows_to room c.loop-i.i ++ row_of_place p) c.load_place.ensures ∙ sym next)
-          (c.append_account-extent.ensures c.args.output.now (rows_to room c.loop-i.i) c.loop-i.invariant.2),
-    )
+    let i = c.loop-i.i in
+    let next = rows_next room c.requires.0.ledger c.requires.0.is_room i (place-counted room c.load_sizes-sizes.ensures c.loop-i-test.true) in
+    subst (λ (rs : List Row). WritesRows rs c.args.output.now c.append_account-extent.new.output c.append_account-extent.result)
+        (ap (λ p. rows_to room i ++ row_of_place p) c.load_place.ensures ∙ sym next)
+        (c.append_account-extent.ensures c.args.output.now (rows_to room i) c.loop-i.invariant)
 
 pub returns : goal.returns
 returns c L room =
     subst (λ (rs : List Row). WritesRows rs c.args.output.now c.loop-i.output c.loop-i.extent)
-    (rows_all c.args.room.now L room c.loop-i.i (omega (arith, in_use c.before.before.before, c.loop-i-test.false))) c.loop-i.invariant.2
-
-pub loop-i-init : goal.loop-i-init
-loop-i-init c = (omega arith, refl, none_written c.args.room.now c.args.output.now)
-
-pub shape_of-output : goal.shape_of-output
-shape_of-output c = c.loop-i.invariant.1
+        (rows_all c.args.room.now L room c.loop-i.i (omega (arith, ap (λ s. s.used) c.load_sizes-sizes.ensures))) c.loop-i.invariant

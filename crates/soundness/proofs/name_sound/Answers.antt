@@ -2,8 +2,7 @@
 -- three parts are the name's bytes.
 use Rattle.std.proofs.Common.{◌≡◌, refl, ap, ◌∙◌, ◌*◌, length, arith, ⊎_elim}
 use Rattle.std.proofs.Math.ListN.{get_or-eq_default}
-use Rattle.rules.specs.Lists.{All}
-use Rattle.rules.specs.RoomAndSoundLedger.{IsByte, longest_name}
+use Rattle.rules.specs.RoomAndSoundLedger.{longest_name}
 use Rattle.rules.proofs.Tests.{less-or-not}
 use Rattle.names.specs.declared.Name.{Name}
 use Rattle.numbers.specs.LittleEndian.{little_number}

@@ -1,5 +1,5 @@
 -- `soundness::places_sound` meets its contract: each step adds one place to those passed (Places), and a place that fails a test is one of sound places.
-use Rattle.std.proofs.Common.{◌≡◌, ◌-◌, ◌<◌, refl, ◌∙◌, length, arith}
+use Rattle.std.proofs.Common.{◌-◌, refl, ◌∙◌, arith}
 use Rattle.rules.specs.Lists.{sum}
 use Rattle.records.specs.Layout.{place_size, head_size}
 use Rattle.records.specs.Records.{place_of}

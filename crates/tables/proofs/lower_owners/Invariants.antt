@@ -12,5 +12,5 @@ invariant-loop-j l =
     record {
       sized : SizedBy (length l.initial.room) (contents_of l.initial.room).sizes;
       bytes : All IsByte l.initial.room;
-      lowered : Becomes (on_bookings (renumbered (lowered l.i) l.j)) l.initial.room l.room
+      lowered : Becomes (on_bookings (renumbered (lowered l.i) l.j)) l.initial.room l.room;
     }

@@ -9,5 +9,5 @@ abbrev pub invariant-loop-j : goal.invariant-loop-j
 invariant-loop-j l =
     record {
       sized : SizedBy (length l.initial.room) (contents_of l.initial.room).sizes;
-      moved : Becomes (on_places (moved_down l.i l.j empty_place)) l.initial.room l.room
+      moved : Becomes (on_places (moved_down l.i l.j empty_place)) l.initial.room l.room;
     }

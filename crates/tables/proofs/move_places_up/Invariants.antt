@@ -11,5 +11,5 @@ invariant-loop-j l =
     record {
       from : l.i ≤ l.j;
       sized : SizedBy (length l.initial.room) (contents_of l.initial.room).sizes;
-      moved : Becomes (on_places (moved_up l.j l.used empty_place)) l.initial.room l.room
+      moved : Becomes (on_places (moved_up l.j l.used empty_place)) l.initial.room l.room;
     }

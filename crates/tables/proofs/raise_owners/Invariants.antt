@@ -9,5 +9,5 @@ abbrev pub invariant-loop-j : goal.invariant-loop-j
 invariant-loop-j l =
     record {
       sized : SizedBy (length l.initial.room) (contents_of l.initial.room).sizes;
-      raised : Becomes (on_bookings (renumbered (raised l.i) l.j)) l.initial.room l.room
+      raised : Becomes (on_bookings (renumbered (raised l.i) l.j)) l.initial.room l.room;
     }
