@@ -1,13 +1,13 @@
 -- A snapshot handed out: written into the part behind the number, then the number. With `put` for both writes the output is the number, the bytes, and what
 -- stood behind them (`number-before`).
-use mathlib.Core.Path.{◌≡◌, sym, ap, subst, ◌∙◌}
+use mathlib.Core.Path.{◌≡◌, sym, ap, ◌∙◌}
 use mathlib.Core.List.{List, [], ◌∷◌, ◌++◌, append-nil}
 use Prim.Native.Nat.{ℕ, suc, ◌+◌, ◌-◌, ◌≤◌}
 use native.Mathlib.Omega.{arith}
 use borrow.Rule.Slice.PartMut.{put_same}
 use lib.ListN.{length, take, drop, length-drop, drop_of_length-le}
 use lib.Seq.{take_all, drop_at, drop-drop, length-take-le}
-use Rattle.rules.specs.AnswerNumbers.{SnapshotBytes, Reply, Refusal, done, reply_of}
+use Rattle.rules.specs.AnswerNumbers.{SnapshotBytes, Refusal, done, reply_of}
 use Rattle.rules.specs.SnapshotsMigrationCertificates.{bytes_of, output_after}
 use Rattle.rules.specs.Frames.{value_bytes, reply_bytes}
 use Rattle.records.specs.Rows.{row, put}
@@ -53,11 +53,10 @@ module _ (output : List ℕ) where
           ∙ sym (ap (λ l. l ++ drop (length l) output) (reply-is bs));
     }
 
-    -- what a snapshot hands out has its size, and is written so
-    pub handed-out : (answer : Reply) {size : ℕ} {after w : List ℕ} → answer ≡ done (SnapshotBytes (take size after) ∷ []) → size ≤ length after
-        → after ≡ output_after answer part → w ≡ 0 ∷ drop 1 (with_part after) → WritesReply answer output w (1 + size)
-    handed-out answer {size} {after} {w} is fits kept written = subst (λ r. WritesReply r output w (1 + size)) (sym is)
-        (number-before (take size after) (length-take-le size after fits) (kept ∙ ap (λ r. output_after r part) is) written)
+    -- a snapshot handed out has its size, and is written so
+    pub handed-out : (size : ℕ) (after : List ℕ) {w : List ℕ} → size ≤ length after → after ≡ output_after (done (SnapshotBytes (take size after) ∷ [])) part
+        → w ≡ 0 ∷ drop 1 (with_part after) → WritesReply (done (SnapshotBytes (take size after) ∷ [])) output w (1 + size)
+    handed-out size after fits kept written = number-before (take size after) (length-take-le size after fits) kept written
 
   -- a refusal leaves the output as it was
   pub refusal-leaves : (e : Refusal) {after : List ℕ} → after ≡ output_after (reply_of e) part → with_part after ≡ output

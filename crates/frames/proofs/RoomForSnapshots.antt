@@ -1,6 +1,6 @@
 -- An output with room for the longest snapshot answers as one of just that room does: no snapshot is too long for either, by the rules' bound on a snapshot's
 -- bytes.
-use mathlib.Core.Path.{◌≡◌, refl, sym, ap, ◌∙◌}
+use mathlib.Core.Path.{◌≡◌, refl, sym, ap, subst, ◌∙◌}
 use mathlib.Core.Bool.{false}
 use mathlib.Core.List.{List, [], ◌∷◌}
 use mathlib.Core.Logic.{◌≢◌}
@@ -13,7 +13,8 @@ use types.Run.{OneOf, hit, miss}
 use lib.Dec.{eqb}
 use lib.ListN.{length}
 use Rattle.rules.specs.RoomAndSoundLedger.{M, Ledger, Sound}
-use Rattle.rules.specs.AnswerNumbers.{SnapshotBytes, Reply, Refusal, AllocatorExhausted, done, reply_of, Outcome}
+use Rattle.rules.specs.AnswerNumbers.{Reply, Outcome}
+use Rattle.room.specs.Room.{IsRoom, Performed}
 use Rattle.rules.specs.SnapshotsMigrationCertificates.{Snapshot, snapshot_bytes, has_long_name, snapshot_of, taking_snapshot, too_short_for, handed_out, snapshot, ◌gives◌else◌, tagged, with_version, reply_or, migrate, most_rows}
 use Rattle.rules.specs.Frames.{longest_snapshot}
 use Rattle.rules.proofs.Tests.{by-test, by_bool}
@@ -38,13 +39,9 @@ module _ {size : ℕ} (long : longest_snapshot ≤ size) where
   unfolding snapshot taking_snapshot
   same-snapshot L known = rw (enough (snapshot_of L) (own-snapshot-has-room L known))
 
--- ── a migration that is done ───────────────────────────────────────────────────────────────────
-
-done-is : (o : Option Refusal) (x : Reply) (bs : List ℕ) → done (SnapshotBytes bs ∷ []) ≡ reply_or o x → done (SnapshotBytes bs ∷ []) ≡ x
-unfolding reply_or
-done-is none x bs e = e
-done-is (some refusal) x bs e = absurd (omega (arith, refusal-number refusal, ap (λ r. r.number) e))
-
-pub hands_out : (size fence : ℕ) (s : Snapshot) (bs : List ℕ) → done (SnapshotBytes bs ∷ []) ≡ migrate size fence s → bs ≡ snapshot_bytes (with_version (tagged fence) s)
-unfolding migrate
-hands_out size fence s bs e = ap (λ r. handed_out r.carried) (done-is _ _ bs e)
+  -- so what is performed with this room is performed with just that one
+  pub taken : {L : Ledger} {r : Reply} {ys : List ℕ} → Sound L → Performed (snapshot size) L r ys → Performed (snapshot longest_snapshot) L r ys
+  taken {L} {r} {ys} known given = let same = same-snapshot L known in record {
+    answer = given.answer ∙ ap (λ (o : Outcome). o.reply) same;
+    room = subst (λ (o : Outcome). IsRoom ys o.ledger) same given.room;
+  }

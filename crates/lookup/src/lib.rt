@@ -2,7 +2,7 @@
 
 #![tactic(auto)]
 
-ghost use Rattle.std.specs.Prelude.{◌+◌, ◌*◌, ◌≤◌, ◌<◌, ◌≡◌, length};
+ghost use Rattle.std.specs.Prelude.{◌+◌, ◌≤◌, ◌≡◌, length};
 ghost use Rattle.rules.specs.RoomAndSoundLedger.{longest_name};
 ghost use Rattle.names.specs.Names.{spelled};
 ghost use Rattle.records.specs.Layout.{place_start, place_size};

@@ -49,6 +49,10 @@ module _ (L : Ledger) (size : ℕ) where
   pub plenty : (xs : List ℕ) → IsRoom xs L → snapshot_header + longest_row * (sizes_of xs).used ≤ size → true ≡ not (too_short_for size (snapshot_of L))
   plenty xs room h = sym (ap not (le-ltb size (length (snapshot_bytes (snapshot_of L))) (omega (arith, snapshot-size (snapshot_of L), rows-most xs L room))))
 
+  -- where it is not too short, the rows fit behind the header
+  pub roomy : too_short_for size (snapshot_of L) ≡ false → snapshot_header + length (account_bytes L) ≤ size
+  roomy e = omega (arith, snapshot-size (snapshot_of L), ltb-false size (length (snapshot_bytes (snapshot_of L))) e)
+
   -- ── the outcomes of the rules ────────────────────────────────────────────────────────────────
 
   exhausts : next_id_is_m L ≡ true → snapshot size L ≡ refused AllocatorExhausted L
@@ -110,27 +114,27 @@ promise : (size : ℕ) (L : Ledger) (o : Outcome) (r : Reply) (ys : List ℕ) �
 promise size L o r ys e q k = record { answer = q ∙ sym (ap (λ o. o.reply) e); room = subst (λ (o : Outcome). IsRoom ys o.ledger) (sym e) k }
 
 module _ (xs : List ℕ) (L : Ledger) (room : IsRoom xs L) where
-  -- what the head of the room is stamped to
-  pub stamped-here : {h : Head} → h ≡ head_of xs → {r : Result Head Refusal} → r ≡ stamped_head h → stamped_head (head_in L) ≡ r
-  stamped-here loaded is = sym (is ∙ ap stamped_head (loaded ∙ head-is xs L room))
+  module _ (size : ℕ) {h : Head} (loaded : h ≡ head_of xs) where
+    stamped-here : {r : Result Head Refusal} → r ≡ stamped_head h → stamped_head (head_in L) ≡ r
+    stamped-here is = sym (is ∙ ap stamped_head (loaded ∙ head-is xs L room))
 
-  pub answers-exhausted : (size : ℕ) (e : Refusal) → stamped_head (head_in L) ≡ Err e → Performed (snapshot size) L (reply_of (refusal_of e)) xs
-  answers-exhausted size e is =
-      let last = stamp-exhausts L e is in
-      promise size L (refused AllocatorExhausted L) _ xs (exhausts L size last.0) (ap (λ e. reply_of (refusal_of e)) last.1) room
+    pub answers-exhausted : (e : Refusal) → Err e ≡ stamped_head h → Performed (snapshot size) L (reply_of (refusal_of e)) xs
+    answers-exhausted e is =
+        let last = stamp-exhausts L e (stamped-here is) in
+        promise size L (refused AllocatorExhausted L) _ xs (exhausts L size last.0) (ap (λ e. reply_of (refusal_of e)) last.1) room
 
-  module _ (size : ℕ) (h : Head) (next : stamped_head (head_in L) ≡ Ok h) where
-    drawn : (next_id_is_m L ≡ false) × (h ≡ head_in (after_snapshot L))
-    drawn = stamp-draws L h next
+    module _ {next : Head} (stamped : Ok next ≡ stamped_head h) where
+      drawn : (next_id_is_m L ≡ false) × (next ≡ head_in (after_snapshot L))
+      drawn = stamp-draws L next (stamped-here stamped)
 
-    pub answers-short : too_short_for size (snapshot_of L) ≡ true → Performed (snapshot size) L (reply_of OutputTooShort) xs
-    answers-short e = promise size L (refused OutputTooShort L) _ xs (is-short L size drawn.0 e) refl room
+      pub answers-short : too_short_for size (snapshot_of L) ≡ true → Performed (snapshot size) L (reply_of OutputTooShort) xs
+      answers-short e = promise size L (refused OutputTooShort L) _ xs (is-short L size drawn.0 e) refl room
 
-    -- the snapshot of the stamped head and of the room's own counts is the ledger's
-    pub answers-written : too_short_for size (snapshot_of L) ≡ false → (s : Sizes) → s ≡ sizes_of xs
-        → (bs ys : List ℕ) → bs ≡ snapshot_bytes (record { version = h.last_version; active = s.live; rows = account_rows L.places })
-        → (length ys ≡ length xs) × (contents_of ys ≡ with_head h (contents_of xs)) → Performed (snapshot size) L (done (SnapshotBytes bs ∷ [])) ys
-    answers-written e s sizes bs ys written stored =
-        let own = written ∙ (λ i. snapshot_bytes (record { version = (drawn.1 i).last_version; active = ((sizes ∙ sizes-are xs L room) i).live; rows = account_rows L.places })) in
-        promise size L _ _ ys (writes L size drawn.0 e) (ap (λ bs. done (SnapshotBytes bs ∷ [])) own)
-        (record { size = omega (arith, room.size, stored.0); holds = stored.1 ∙ ap₂ with_head drawn.1 room.holds ∙ stamped-contents L; sound = after-sound L room.sound drawn.0 })
+      -- the snapshot of the stamped head and of the room's own counts is the ledger's
+      pub answers-written : too_short_for size (snapshot_of L) ≡ false → (s : Sizes) → s ≡ sizes_of xs
+          → (bs ys : List ℕ) → bs ≡ snapshot_bytes (record { version = next.last_version; active = s.live; rows = account_rows L.places })
+          → (length ys ≡ length xs) × (contents_of ys ≡ with_head next (contents_of xs)) → Performed (snapshot size) L (done (SnapshotBytes bs ∷ [])) ys
+      answers-written e s sizes bs ys written stored =
+          let own = written ∙ (λ i. snapshot_bytes (record { version = (drawn.1 i).last_version; active = ((sizes ∙ sizes-are xs L room) i).live; rows = account_rows L.places })) in
+          promise size L _ _ ys (writes L size drawn.0 e) (ap (λ bs. done (SnapshotBytes bs ∷ [])) own)
+          (record { size = omega (arith, room.size, stored.0); holds = stored.1 ∙ ap₂ with_head drawn.1 room.holds ∙ stamped-contents L; sound = after-sound L room.sound drawn.0 })

@@ -2,10 +2,9 @@
 
 #![tactic(auto)]
 
-ghost use Rattle.std.specs.Prelude.{◌≡◌, ◌++◌, ◌+◌, ◌-◌, ◌*◌, ◌≤◌, ◌<◌, length, take, drop};
+ghost use Rattle.std.specs.Prelude.{◌≡◌, ◌≤◌, ◌<◌, take};
 ghost use Rattle.rules.specs.Lists.{All};
-ghost use Rattle.records.specs.Layout.{booking_size};
-ghost use Rattle.room.specs.Contents.{contents_of, Sized, base_of, empty_place, empty_booking, with_owner, raised, lowered, renumbered, live_bookings, with_head, with_place, inserted_place, freed_place, appended_booking, removed_booking};
+ghost use Rattle.room.specs.Contents.{contents_of, Sized, base_of, empty_place, empty_booking, raised, lowered, renumbered, live_bookings, with_head, with_place, inserted_place, freed_place, appended_booking, removed_booking};
 ghost use Rattle.tables.specs.Steps.{Becomes, on_places, on_bookings, moved_up, moved_down, CanRise};
 
 use names::Name;

@@ -74,13 +74,10 @@ unfolding answer
 returns-in-Status c =
     told c.before.before.before.before.before.before.before c.in-Status.is (writes-supplied (parts c.before.before.before.before.before.before.before c.in-Status.is) judge c.status.ensures)
 
-pub returns-in-BadFrame : goal.returns-in-BadFrame
-returns-in-BadFrame c = told c.before.before.before.before.before.before c.in-BadFrame.is c.write_number.ensures
-
 pub returns-in_default : goal.returns-in_default
 returns-in_default c =
     let entry = start c.before.before.before.before.before.before in
-    matched (refuses (bytes c.before.before.before.before.before.before) entry.args.frame (is_lent entry.args.frame c.in_default.not-Migrate c.in_default.not-CertificateOfSnapshot c.in_default.not-Status c.in_default.not-BadFrame) entry.requires.0) c.write_number-in_default.ensures
+    matched (refuses (bytes c.before.before.before.before.before.before) entry.args.frame (is_lent entry.args.frame c.in_default.not-Migrate c.in_default.not-CertificateOfSnapshot c.in_default.not-Status) entry.requires.0) c.write_refusal.ensures
 
 pub slice_bounds-migrate-count : goal.slice_bounds-migrate-count
 slice_bounds-migrate-count c = (parts c.before.before c.in-Migrate.is).within
@@ -100,8 +97,5 @@ slice_bounds-status-count c = (parts c.before.before c.in-Status.is).within
 pub slice_bounds-status-start : goal.slice_bounds-status-start
 slice_bounds-status-start c = (parts c.before.before c.in-Status.is).within
 
-pub write_number-requires : goal.write_number-requires
-write_number-requires c = omega (arith, enough c.before.before.before)
-
-pub write_number-requires-in_default : goal.write_number-requires-in_default
-write_number-requires-in_default c = omega (arith, enough c.before.before.before)
+pub write_refusal-requires : goal.write_refusal-requires
+write_refusal-requires c = enough c.before.before.before

@@ -2,21 +2,15 @@
 -- Answering, and what was measured is what writing asks.
 use mathlib.Core.Path.{◌≡◌, refl, sym, ap, ◌∙◌}
 use mathlib.Core.Bool.{false}
-use mathlib.Core.List.{List}
-use Prim.Native.Nat.{ℕ, ◌+◌, ◌≤◌}
 use native.Mathlib.Omega.{arith}
-use borrow.Author.Tests.{not-true, not-false, ltb-false}
+use borrow.Author.Tests.{not-true, not-false}
 use lib.ListN.{length}
-use Rattle.std.specs.Prelude.{Result, Ok, Err}
-use Rattle.rules.specs.SnapshotsMigrationCertificates.{account_rows, snapshot_bytes, snapshot_of, too_short_for}
-use Rattle.big_endian.specs.Layout.{snapshot_header}
-use Rattle.records.specs.declared.Head.{Head}
-use Rattle.heads.specs.Heads.{stamped_head}
-use Rattle.room.specs.Room.{head_in, OfRoom}
+use Rattle.std.proofs.lemmas.Result.{err_from_is_err_and}
+use Rattle.rules.specs.RoomAndSoundLedger.{Ledger}
+use Rattle.rules.specs.SnapshotsMigrationCertificates.{account_rows, snapshot_of, too_short_for}
+use Rattle.room.specs.Room.{IsRoom, OfRoom}
 use Rattle.room.proofs.SoundRoom.{head-is, sized}
-use Rattle.snapshot_writer.proofs.PlaceRows.{snapshot-size}
-use Rattle.snapshot_writer.proofs.Answering.{WrittenInto, written_out, stamped-here, answers-exhausted, answers-short, answers-written}
-use Rattle.snapshot_writer.specs.Rows.{account_bytes}
+use Rattle.snapshot_writer.proofs.Answering.{roomy, written_out, answers-exhausted, answers-short, answers-written}
 use Rattle.snapshot_writer.proofs.snapshot.Goals as goal
 
 pub stamp-requires : goal.stamp-requires
@@ -26,20 +20,34 @@ stamp-requires c =
 
 pub returns-in_err-head-clause-performs : goal.returns-in_err-head-clause-performs
 returns-in_err-head-clause-performs c L r =
-    let a = c.in_err-head.was in
-    let b = c.in_err-head.is in
-    let d = c.in_err-head.ensures in
-    let e = c.from_residual.ensures in
-    answers-exhausted c.args.room.now L r (length c.args.output.now) ? (stamped-here c.args.room.now L r c.load_head.ensures c.stamp.ensures ∙ ?)
+    let returned = err_from_is_err_and c.from_residual.result c.from_residual.ensures.1 in
+    rw (returned.1, returned.2) (answers-exhausted c.args.room.now L r (length c.args.output.now) c.load_head.ensures c.in_err-head.field-0.0 c.in_err-head.ensures)
 
 pub returns-then-not-has_room-clause-performs : goal.returns-then-not-has_room-clause-performs
 returns-then-not-has_room-clause-performs c L r =
-    let a = c.in_ok-head.was in
-    let b = c.in_ok-head.is in
-    let d = c.in_ok-head.ensures in
-    let e = c.if-not-has_room.true in
-    answers-short c.args.room.now L r (length c.args.output.now) _ ? ?
+    answers-short c.args.room.now L r (length c.args.output.now) c.load_head.ensures c.in_ok-head.ensures (not-false _ (sym (c.if-not-has_room.ensures L r)))
 
 pub write_rows-extent-requires : goal.write_rows-extent-requires
-write_rows-extent-requires c = 
-    let e = c.if-not-has_room.false in ?
+write_rows-extent-requires c =
+    (c.requires, λ L r. roomy L (length c.args.output.now) (not-true _ (sym (c.if-not-has_room.ensures L r))))
+
+pub write_header-requires : goal.write_header-requires
+write_header-requires c =
+    let L = c.requires.ledger in
+    omega (arith, roomy L (length c.args.output.now) (not-true _ (sym (c.if-not-has_room.ensures L c.requires.is_room))), c.write_rows-extent.auto)
+
+pub put_head-requires : goal.put_head-requires
+put_head-requires c = sized c.args.room.now c.requires.ledger c.requires.is_room
+
+pub returns : goal.returns
+returns c =
+    let room = c.args.room.now in
+    let output = c.args.output.now in
+    let rows = c.write_rows-extent in
+    let enough : OfRoom room (λ L. too_short_for (length output) (snapshot_of L) ≡ false) = λ L r. not-true _ (sym (c.if-not-has_room.ensures L r)) in
+    let into = λ (L : Ledger) (r : IsRoom room L). written_out (record { version = c.in_ok-head.head.last_version; active = c.load_sizes-sizes.result.live; rows = account_rows L.places }) output rows.new.output c.write_header.new.output rows.result (omega (arith, roomy L (length output) (enough L r))) (rows.ensures L r) c.write_header.ensures in
+    record {
+      performs = λ L r. answers-written room L r (length output) c.load_head.ensures c.in_ok-head.ensures (enough L r) c.load_sizes-sizes.result c.load_sizes-sizes.ensures _ _ (into L r).0 c.put_head.ensures;
+      output = (into c.requires.ledger c.requires.is_room).1;
+      size = omega (arith, roomy c.requires.ledger (length output) (enough c.requires.ledger c.requires.is_room), (rows.ensures c.requires.ledger c.requires.is_room).end);
+    }
