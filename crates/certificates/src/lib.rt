@@ -90,12 +90,10 @@ fn totals_of_places(room: &[u8]) -> Option<Totals>
     let used = sizes.used as usize;
     let mut initial = totals::nothing();
     let mut committed = totals::nothing();
-    let mut i = 0;
-    while i < used {
+    for i in 0..used {
         let place = records::load_place(room, i);
         initial = totals::plus(initial, numbers::amount(place.initial));
         committed = totals::plus(committed, numbers::amount(place.committed));
-        i += 1;
     }
     fit_both(initial, committed)
 }
