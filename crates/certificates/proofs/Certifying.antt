@@ -13,8 +13,6 @@ use Rattle.rules.specs.RoomAndSoundLedger.{M}
 use Rattle.rules.specs.AnswerNumbers.{Amount, Version, Count, YesOrNo, Reply, done}
 use Rattle.rules.specs.SnapshotsMigrationCertificates.{Row, Snapshot, fits64, conservation, initial_total, committed_rows_total, totals_fit, is_none, certificate}
 use Rattle.rules.proofs.Tests.{by-test, and-true}
-use Rattle.numbers.specs.Amounts.{natural_of}
-use Rattle.numbers.proofs.Amounts.{natural-none, natural-some}
 use Rattle.records.specs.declared.Head.{Head}
 use Rattle.heads.specs.Heads.{rotated_head}
 use Rattle.heads.specs.declared.Rotated.{Rotated}
@@ -47,20 +45,6 @@ module _ (s : Snapshot) (since : ℤ) (version rows active : ℕ) (v : version �
   certified-fit balanced t b f = rw f.fit (λ i. replied (v i) (n i) (a i) (b i) (f.initial_is i) (f.committed_is i) true since)
 
 -- ── a rotation ─────────────────────────────────────────────────────────────────────────────────
-
-module _ (rs : List Row) (h : Head) (total : ℕ) where
-  pub not-rotated : totals_fit rs ≡ false → record { since = 0; head = h } ≡ rotation_of (totals_fit rs) h total
-  not-rotated e = rw e
-
-  module _ (is-total : committed_rows_total rs ≡ pos total) (t : Totals) (fitting : Fitting (initial_total rs) (committed_rows_total rs) t) where
-    pub never-negative : {A : Type 0} → natural_of t.committed.0 ≡ None → A
-    never-negative e = let q = natural-none t.committed.0 e in let z = fitting.committed_is in cc
-
-    pub rotated : (n : ℕ) → natural_of t.committed.0 ≡ Some n → rotated_head h n ≡ rotation_of (totals_fit rs) h total
-    rotated n e =
-        let q : pos n ≡ pos total = sym (natural-some t.committed.0 n e) ∙ fitting.committed_is ∙ is-total in
-        let m : n ≡ total = cc in
-        rw fitting.fit (ap (rotated_head h) m)
 
 -- what a certificate says of since is an amount: a total that fits is at most M
 pub since-small : (rs : List Row) (h : Head) (total : ℕ) → committed_rows_total rs ≡ pos total → (rotation_of (totals_fit rs) h total).since ≤ M

@@ -1,7 +1,7 @@
 -- The summary of a sound room is that of its ledger's own snapshot, and what it tells: each part read from the room is the ledger's, and the stamp decides
 -- whether there is one.
 use mathlib.Core.Path.{◌≡◌, refl, sym, ◌∙◌, ap}
-use mathlib.Core.Bool.{true, false, cond}
+use mathlib.Core.Bool.{Bool, true, false, cond}
 use mathlib.Core.List.{List, [], ◌∷◌}
 use mathlib.Core.Option.{Option, none, some}
 use Rattle.std.specs.Prelude.{Result, Ok, Err}
@@ -44,6 +44,9 @@ rows-counted L n e =
     let counted : n ≡ length (keep is_account L.places) = cc in
     counted ∙ accounts-are-rows L.places
 
+summarized-is : (L : Ledger) (last : Bool) → next_id_is_m L ≡ last → cond {A = Result Summary Refusal} last (Err AllocatorExhausted) (Ok (summary_of L)) ≡ summarized_of L
+summarized-is L last e = sym (ap (λ b. cond {A = Result Summary Refusal} b (Err AllocatorExhausted) (Ok (summary_of L))) e)
+
 module _ (xs : List ℕ) (L : Ledger) (room : IsRoom xs L) where
   pub live-counted : (s : Sizes) → s ≡ sizes_of xs → s.live ≡ length L.bookings
   live-counted s e = ap (λ t. t.live) (e ∙ sizes-are xs L room)
@@ -60,10 +63,10 @@ module _ (xs : List ℕ) (L : Ledger) (room : IsRoom xs L) where
     stamped-here is = sym (is ∙ ap stamped_head is-head)
 
     pub exhausted : (e : Refusal) → Err e ≡ stamped_head h → Err e ≡ summarized_of L
-    exhausted e is = by-test (λ t. t ≡ Err e → Err e ≡ summarized_of L) (next_id_is_m L) (λ last e. rw last (cc)) (λ _ e. cc) (stamped-here is)
+    exhausted e is = by-test (λ t. t ≡ Err e → Err e ≡ summarized_of L) (next_id_is_m L) (λ last q. let is : e ≡ AllocatorExhausted = cc in ap Err is ∙ summarized-is L true last) (λ _ q. cc) (stamped-here is)
 
     pub taken : (g : Head) → Ok g ≡ stamped_head h → (s : Summary) → ((g ≡ head_in (after_snapshot L)) → s ≡ summary_of L) → Ok s ≡ summarized_of L
-    taken g is s same = by-test (λ t. t ≡ Ok g → Ok s ≡ summarized_of L) (next_id_is_m L) (λ _ e. cc) (λ not_last e. rw not_last (ap Ok (same cc))) (stamped-here is)
+    taken g is s same = by-test (λ t. t ≡ Ok g → Ok s ≡ summarized_of L) (next_id_is_m L) (λ _ e. cc) (λ not_last e. ap Ok (same cc) ∙ summarized-is L false not_last) (stamped-here is)
 
 -- ── what it tells ──────────────────────────────────────────────────────────────────────────────
 
