@@ -1,5 +1,5 @@
 -- A certificate and a rotation, from the totals that were fitted: what was told of them decides the rule's test, and then the values are equal one by one.
-use mathlib.Core.Path.{◌≡◌, sym, ◌∙◌, ap, subst}
+use mathlib.Core.Path.{◌≡◌, sym, subst}
 use mathlib.Core.Bool.{Bool, true, false}
 use mathlib.Core.List.{List, [], ◌∷◌}
 use Rattle.std.specs.Prelude.{Some, None}
@@ -14,7 +14,6 @@ use Rattle.rules.specs.AnswerNumbers.{Amount, Version, Count, YesOrNo, Reply, do
 use Rattle.rules.specs.SnapshotsMigrationCertificates.{Row, Snapshot, fits64, conservation, initial_total, committed_rows_total, totals_fit, is_none, certificate}
 use Rattle.rules.proofs.Tests.{by-test, and-true}
 use Rattle.records.specs.declared.Head.{Head}
-use Rattle.heads.specs.Heads.{rotated_head}
 use Rattle.heads.specs.declared.Rotated.{Rotated}
 use Rattle.certificates.specs.Certified.{totals_of, rotation_of}
 use Rattle.certificates.specs.declared.Totals.{Totals}

@@ -207,14 +207,7 @@ pub fn of_ledger(room: &mut [u8]) -> Result<Certificate, Refusal>
     tables::put_head(room, rotated.head);
     let since = numbers::amount(rotated.since);
     let version = head.last_version;
-    Ok(certify(
-        version,
-        summary.rows,
-        summary.active,
-        true,
-        totals,
-        since,
-    ))
+    Ok(certify(version, summary.rows, summary.active, true, totals, since))
 }
 
 // The head is stamped before the totals are looked at, so 15 leaves it stamped.

@@ -1,6 +1,6 @@
 -- `certificates::of_ledger` meets its contract: the summary is that of the ledger's own snapshot, which balances; the head is rotated where the totals fit,
 -- and the rest of the room stays (Taking).
-use mathlib.Core.Path.{◌≡◌, refl, ◌∙◌, ap}
+use mathlib.Core.Path.{refl, ◌∙◌, ap}
 use native.Mathlib.Omega.{arith}
 use lib.IntN.{pos}
 use Rattle.std.proofs.lemmas.Result.{err_from_is_err_and}

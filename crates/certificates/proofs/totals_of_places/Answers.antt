@@ -1,11 +1,11 @@
 -- `certificates::totals_of_places` meets its contract. The invariant: each total is that of the places passed (OverPlaces). So few amounts leave the high
 -- word far from its ends, which is what `plus` asks.
-use mathlib.Core.Path.{◌≡◌, sym, ◌∙◌, ap, ap₂, subst}
-use Prim.Native.Nat.{◌≤◌, ◌<◌}
+use mathlib.Core.Path.{◌∙◌, ap, ap₂}
+use Prim.Native.Nat.{◌≤◌}
 use native.Mathlib.Omega.{arith}
 use lib.IntN.{pos}
 use Rattle.records.specs.Records.{sizes_of}
-use Rattle.room.proofs.SoundRoom.{sized}
+use Rattle.reads.proofs.Totals.{place-within}
 use Rattle.certificates.specs.Certified.{both_fitted}
 use Rattle.certificates.proofs.OverPlaces.{initials, commits, places-none, place-counted, places-next, places-all, loaded-small}
 use Rattle.certificates.proofs.totals_of_places.Goals as goal
@@ -22,9 +22,7 @@ loop-i-init c =
 -- ── a turn ─────────────────────────────────────────────────────────────────────────────────────
 
 pub load_place-place-requires : goal.load_place-place-requires
-load_place-place-requires c =
-    let room = c.args.room.now in
-    omega (arith, sized room c.requires.ledger c.requires.is_room, place-counted room c.load_sizes-sizes.ensures c.loop-i-test.true)
+load_place-place-requires c = place-within _ c.requires _ c.load_sizes-sizes.ensures _ c.loop-i-test.true
 
 pub amount-requires : goal.amount-requires
 amount-requires c =

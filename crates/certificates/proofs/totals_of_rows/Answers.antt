@@ -1,7 +1,6 @@
 -- `certificates::totals_of_rows` meets its contract. The invariant: each total is that of the rows passed (Adding). So few amounts leave the high word far
 -- from its ends, which is what `plus` asks.
 use mathlib.Core.Path.{◌≡◌, sym, ◌∙◌, ap₂, subst}
-use mathlib.Core.List.{List}
 use Prim.Native.Nat.{ℕ, ◌+◌}
 use native.Mathlib.Omega.{arith}
 use Rattle.big_endian.specs.Layout.{row_amounts}
