@@ -120,8 +120,7 @@ pub fn write_refusal(output: &mut [u8], refusal: Refusal) -> usize
         Refusal::NegativeAmount(value) => write_word(output, 1, word_of(value)),
         Refusal::InvalidAmount => write_number(output, 2),
         Refusal::MissingTenant => write_number(output, 3),
-        Refusal::OverflowOfReserve(reserved) => write_word(output, 4, word_of(reserved)),
-        Refusal::OverflowOfCommit(remaining) => write_word(output, 4, word_of(remaining)),
+        Refusal::Overflow(carried) => write_word(output, 4, word_of(carried)),
         Refusal::OverflowOfTopUp => write_number(output, 4),
         Refusal::ExposureLimitExceeded(reserved, limit) => {
             write_two_words(output, 5, word_of(reserved), word_of(limit))

@@ -1,6 +1,6 @@
 -- What the contracts of the fifteen functions leave open of a result: nothing. What is done is read back from its answer, value by value, and a refusal is fixed by its number and by
 -- what it carries.
-use mathlib.Core.Path.{◌≡◌, refl, sym, ap}
+use mathlib.Core.Path.{◌≡◌, refl, ap}
 use mathlib.Core.List.{List}
 use Prim.Native.Nat.{ℕ, ◌<◌}
 use native.Mathlib.Omega.{arith}
@@ -10,14 +10,9 @@ use Rattle.rules.specs.RoomAndSoundLedger.{Ledger, IsByte}
 use Rattle.rules.specs.AnswerNumbers.{Value, Reply, done, reply_of, Outcome, Refusal as RulesRefusal}
 use Rattle.refusals.specs.declared.Refusal.{Refusal}
 use Rattle.refusals.specs.Answers.{refusal_of, answer_of, carries_nothing, carries_amount, carries_count, carries_version}
-use Rattle.numbers.specs.declared.Microcents.{Microcents}
 use Rattle.room.specs.Room.{Answers}
 use Rattle.room.proofs.SameAnswers.{amount_at, number_at, ReadBack, one-result, same_answer}
-use Rattle.accounts.specs.declared.ToppedUp.{ToppedUp}
 use Rattle.accounts.specs.Answers.{carries_top_up}
-use Rattle.reservations.specs.declared.Granted.{Granted}
-use Rattle.reservations.specs.declared.Committed.{Committed}
-use Rattle.reservations.specs.declared.Released.{Released}
 use Rattle.reservations.specs.Answers.{carries_grant, carries_commit, carries_release}
 use Rattle.any_memory_accounts.specs.Tells.{Tells}
 use Rattle.any_memory_accounts.proofs.SameReading.{same-reading}

@@ -1,13 +1,16 @@
 -- A total that amounts are added to, one after the other; and over rows, where the rules add from the last row and the code from the first.
 use mathlib.Core.Path.{◌≡◌, sym, ◌∙◌, ap}
 use mathlib.Core.List.{List, [], ◌∷◌, ◌++◌}
+use mathlib.Core.Option.{some}
 use Prim.Native.Nat.{ℕ, ◌+◌, ◌^◌, ◌≤◌, ◌<◌}
 use native.Mathlib.Omega.{arith}
 use lib.IntN.{ℤ, pos, ◌+ℤ◌, +ℤ_assoc, +ℤ_idl, +ℤ_idr}
 use lib.ListN.{length, length-append}
 use lib.Signed.{mag}
-use Rattle.rules.specs.SnapshotsMigrationCertificates.{Row, exact_total, most_rows}
+use Rattle.rules.specs.SnapshotsMigrationCertificates.{Row, Snapshot, snapshot_of_bytes, exact_total, most_rows}
 use Rattle.numbers.specs.declared.Microcents.{Microcents}
+use Rattle.snapshot_reader.specs.Standing.{Passed}
+use Rattle.snapshot_reader.proofs.Header.{header}
 use Rattle.totals.specs.declared.Total.{Total}
 use Rattle.totals.specs.Totals.{value_of, Moved}
 use Rattle.totals.proofs.Carrying.{moved-little}
@@ -48,3 +51,7 @@ module _ (of : Row → ℤ) where
   rows_next rs r t added a u is plus =
       let next = one_more (length rs) (exact_total of rs) t added a u plus in
       (next.0 ∙ ap (λ z. exact_total of rs +ℤ z) is ∙ sym (total-more rs r), omega (arith, next.1, length-append rs (r ∷ [])))
+
+-- there are at most 256 rows
+pub few-passed : {bs : List ℕ} {s : Snapshot} → snapshot_of_bytes bs ≡ some s → {at : ℕ} {P : List Row → List Row → Type 0} → (p : Passed bs s.rows at P) → length p.earlier ≤ most_rows
+few-passed {bs} {s} is p = omega (arith, (header bs s is).few, ap length p.rows, length-append p.earlier p.later)

@@ -1,35 +1,30 @@
 -- A certificate and a rotation, from the totals that were fitted: what was told of them decides the rule's test, and then the values are equal one by one.
-use mathlib.Core.Path.{◌≡◌, sym, ◌∙◌, ap, subst}
+use mathlib.Core.Path.{◌≡◌, sym, subst}
 use mathlib.Core.Bool.{Bool, true, false}
 use mathlib.Core.List.{List, [], ◌∷◌}
+use Rattle.std.specs.Prelude.{Some, None}
 use Prim.Native.Nat.{ℕ, ◌≤◌}
 use native.Mathlib.Omega.{arith}
 use borrow.Author.Tests.{leb-true}
 use lib.Dec.{ltb}
-use lib.IntN.{ℤ, pos, negsuc}
+use lib.IntN.{ℤ, pos}
 use lib.ListN.{length}
 use Rattle.rules.specs.RoomAndSoundLedger.{M}
 use Rattle.rules.specs.AnswerNumbers.{Amount, Version, Count, YesOrNo, Reply, done}
 use Rattle.rules.specs.SnapshotsMigrationCertificates.{Row, Snapshot, fits64, conservation, initial_total, committed_rows_total, totals_fit, is_none, certificate}
 use Rattle.rules.proofs.Tests.{by-test, and-true}
-use Rattle.numbers.specs.declared.Microcents.{Microcents}
-use Rattle.numbers.specs.Amounts.{sign_of}
-use Rattle.numbers.specs.declared.Sign.TheVariants.{Negative, Natural}
-use Rattle.numbers.proofs.Amounts.{sign-negative, sign-natural}
 use Rattle.records.specs.declared.Head.{Head}
-use Rattle.heads.specs.Heads.{rotated_head}
 use Rattle.heads.specs.declared.Rotated.{Rotated}
 use Rattle.certificates.specs.Certified.{totals_of, rotation_of}
 use Rattle.certificates.specs.declared.Totals.{Totals}
-use Rattle.certificates.specs.declared.Totals.TheVariants.{Fit, Outside}
 use Rattle.certificates.proofs.BothTotals.{Fitting, fit_is, outside-is}
 
-module _ (rs : List Row) (totals : Totals) (are : totals ≡ totals_of rs) where
-  pub told-outside : totals ≡ Outside → totals_fit rs ≡ false
-  told-outside e = outside-is (initial_total rs) (committed_rows_total rs) (sym are ∙ e)
+module _ (rs : List Row) where
+  pub told-outside : None ≡ totals_of rs → totals_fit rs ≡ false
+  told-outside are = outside-is (initial_total rs) (committed_rows_total rs) (sym are)
 
-  pub told_fit : (a b : Microcents) → totals ≡ Fit a b → Fitting (initial_total rs) (committed_rows_total rs) a b
-  told_fit a b e = fit_is (initial_total rs) (committed_rows_total rs) a b (sym are ∙ e)
+  pub told_fit : (t : Totals) → Some t ≡ totals_of rs → Fitting (initial_total rs) (committed_rows_total rs) t
+  told_fit t are = fit_is (initial_total rs) (committed_rows_total rs) t (sym are)
 
 -- ── a certificate ──────────────────────────────────────────────────────────────────────────────
 
@@ -43,26 +38,12 @@ module _ (s : Snapshot) (since : ℤ) (version rows active : ℕ) (v : version �
   unfolding certificate
   certified-outside e = rw e (λ i. replied (v i) (n i) (a i) false (pos 0) (pos 0) false since)
 
-  pub certified-fit : (balanced : Bool) (x y : Microcents) → balanced ≡ is_none (conservation s.rows) → Fitting (initial_total s.rows) (committed_rows_total s.rows) x y
-      → replied version rows active balanced x.0 y.0 true since ≡ certificate s since
+  pub certified-fit : (balanced : Bool) (t : Totals) → balanced ≡ is_none (conservation s.rows) → Fitting (initial_total s.rows) (committed_rows_total s.rows) t
+      → replied version rows active balanced t.initial.0 t.committed.0 true since ≡ certificate s since
   unfolding certificate
-  certified-fit balanced x y b f = rw f.fit (λ i. replied (v i) (n i) (a i) (b i) (f.initial_is i) (f.committed_is i) true since)
+  certified-fit balanced t b f = rw f.fit (λ i. replied (v i) (n i) (a i) (b i) (f.initial_is i) (f.committed_is i) true since)
 
 -- ── a rotation ─────────────────────────────────────────────────────────────────────────────────
-
-module _ (rs : List Row) (h : Head) (total : ℕ) where
-  pub not-rotated : totals_fit rs ≡ false → record { since = 0; head = h } ≡ rotation_of (totals_fit rs) h total
-  not-rotated e = rw e
-
-  module _ (is-total : committed_rows_total rs ≡ pos total) (a b : Microcents) (fitting : Fitting (initial_total rs) (committed_rows_total rs) a b) where
-    pub never-negative : {A : Type 0} → sign_of b.0 ≡ Negative → A
-    never-negative e = absurd (let q : pos total ≡ negsuc _ = sym is-total ∙ sym fitting.committed_is ∙ sign-negative b.0 e in let z : ◌≡◌ {A = ℕ} 0 1 = cc in omega arith)
-
-    pub rotated : (n : ℕ) → sign_of b.0 ≡ Natural n → rotated_head h n ≡ rotation_of (totals_fit rs) h total
-    rotated n e =
-        let q : pos n ≡ pos total = sym (sign-natural b.0 n e) ∙ fitting.committed_is ∙ is-total in
-        let m : n ≡ total = cc in
-        rw fitting.fit (ap (rotated_head h) m)
 
 -- what a certificate says of since is an amount: a total that fits is at most M
 pub since-small : (rs : List Row) (h : Head) (total : ℕ) → committed_rows_total rs ≡ pos total → (rotation_of (totals_fit rs) h total).since ≤ M

@@ -19,6 +19,7 @@ use Rattle.records.specs.Layout.{place_size, place_start}
 use Rattle.records.specs.Rows.{row}
 use Rattle.records.specs.Records.{sizes_of, place_of}
 use Rattle.records.specs.declared.Place.{Place}
+use Rattle.records.specs.declared.Sizes.{Sizes}
 use Rattle.room.specs.Contents.{contents_of, used_places}
 use Rattle.room.specs.Room.{place_with, place_record, IsRoom}
 use Rattle.rules.proofs.ByIndex.{all_read}
@@ -41,6 +42,10 @@ initials = record { in_account = λ c. c.initial; in_place = λ p. p.initial; in
 
 abbrev pub commits : AmountKind
 commits = record { in_account = λ c. c.committed; in_place = λ p. p.committed; in_row = λ r. r.committed; without = λ a l. refl; with_account = λ a c l. refl; row = λ a c. refl }
+
+-- a place below as many as were loaded to be in use is in use
+pub place-counted : (xs : List ℕ) → {s : Sizes} → s ≡ sizes_of xs → {i : ℕ} → i < s.used → i < (sizes_of xs).used
+place-counted xs sizes h = omega (arith, ap (λ s. s.used) sizes)
 
 module _ (f : AmountKind) where
   -- the total over the accounts' rows is that over the places: a name without an account has zero amounts
@@ -89,8 +94,8 @@ record-small p h = go p.seat.account h
     go none h = record { initial = omega arith; remaining = omega arith; committed = omega arith }
     go (some c) (e, h) = record { initial = h; remaining = omega arith; committed = omega arith }
 
-pub amounts-small : (xs : List ℕ) (L : Ledger) → IsRoom xs L → (i : ℕ) → i < (sizes_of xs).used → AmountsSmall (place_of (row place_size (place_start i) xs))
-amounts-small xs L room i h =
+pub loaded-small : (xs : List ℕ) (L : Ledger) → IsRoom xs L → {i : ℕ} → i < (sizes_of xs).used → {p : Place} → p ≡ place_of (row place_size (place_start i) xs) → AmountsSmall p
+loaded-small xs L room {i} h loaded =
     let s = sized xs L room in
     let all : All AmountsSmall (used_places (contents_of xs)) = rw (places-are xs L room) (all-images place_record AmountsSmall L.places (all_map (λ p. AddsUp p.seat.account) _ record-small L.places room.sound.accounts_add_up)) in
-    subst AmountsSmall (sym (loaded-place xs s i (place_of []) h)) (all_read AmountsSmall (place_of []) (used_places (contents_of xs)) i all (omega (arith, used-places xs s)))
+    subst AmountsSmall (sym (loaded ∙ loaded-place xs s i (place_of []) h)) (all_read AmountsSmall (place_of []) (used_places (contents_of xs)) i all (omega (arith, used-places xs s)))

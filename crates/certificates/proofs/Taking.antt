@@ -8,21 +8,24 @@ use lib.Dec.{ltb}
 use lib.IntN.{pos}
 use lib.ListN.{length}
 use Rattle.rules.specs.RoomAndSoundLedger.{Ledger, committed_total, Sound}
-use Rattle.rules.specs.AnswerNumbers.{Reply, AllocatorExhausted, AggregateOverflow, reply_of, Outcome, outcome, refused, sound, on_lent}
+use Rattle.rules.specs.AnswerNumbers.{Reply, done, AllocatorExhausted, AggregateOverflow, reply_of, Outcome, outcome, refused, sound, on_lent}
 use Rattle.rules.specs.AccountRules.{next_id_is_m}
-use Rattle.rules.specs.SnapshotsMigrationCertificates.{Snapshot, account_rows, snapshot_of, taking_snapshot, conservation, initial_total, committed_rows_total, totals_fit, is_none, certificate, certificate_of_ledger, conservation_proof}
+use Rattle.rules.specs.SnapshotsMigrationCertificates.{Row, Snapshot, account_rows, snapshot_of, taking_snapshot, conservation, initial_total, committed_rows_total, totals_fit, is_none, certificate, certificate_of_ledger, conservation_proof}
 use Rattle.rules.specs.Frames.{certify_ledger, prove_conservation, answer}
 use Rattle.rules.proofs.Tests.{by_bool}
 use Rattle.rules.proofs.OwnSnapshot.{own-snapshot-balanced}
-use Rattle.rules.proofs.SnapshotSoundness.{answer-sound}
-use Rattle.numbers.specs.declared.Microcents.{Microcents}
+use Rattle.rules.proofs.SnapshotSoundness.{answer-sound, committed-rows-total}
 use Rattle.records.specs.declared.Head.{Head}
 use Rattle.heads.specs.Heads.{with_baseline}
 use Rattle.heads.specs.declared.Rotated.{Rotated}
 use Rattle.room.specs.Contents.{contents_of, with_head}
 use Rattle.room.specs.Room.{contents_in, IsRoom, Performed}
-use Rattle.certificates.specs.Certified.{proof_reply, rotation_of, summary_of}
+use Rattle.certificates.specs.Certified.{carries_proof, totals_of, rotation_of, summary_of}
 use Rattle.certificates.specs.declared.Summary.{Summary}
+use Rattle.certificates.specs.declared.Totals.{Totals}
+use Rattle.refusals.specs.declared.Refusal.{Refusal}
+use Rattle.refusals.specs.declared.Refusal.TheVariants as refusal
+use Rattle.refusals.specs.Answers.{refusal_of}
 use Rattle.certificates.proofs.BothTotals.{Fitting}
 
 -- ── the outcomes ───────────────────────────────────────────────────────────────────────────────
@@ -35,9 +38,17 @@ headed h L = record { T = L.T; R = L.R; next_id = h.next_id; last_version = h.la
 abbrev pub rotated_in : Ledger → Rotated
 rotated_in L = rotation_of (totals_fit (account_rows L.places)) (summary_of L).head (committed_total L.places)
 
+-- what `rotation` makes of the summary's head and totals
+pub turned : (L : Ledger) (s : Summary) → s ≡ summary_of L → (r : Rotated)
+    → ((rs : List Row) (total : ℕ) → s.totals ≡ totals_of rs → committed_rows_total rs ≡ pos total → r ≡ rotation_of (totals_fit rs) s.head total) → r ≡ rotated_in L
+turned L s is r told =
+    let rows = account_rows L.places in
+    let total = committed_total L.places in
+    told rows total (ap (λ s. s.totals) is) (committed-rows-total L.places) ∙ ap (λ s. rotation_of (totals_fit rows) s.head total) is
+
 -- what the conservation proof answers
-abbrev pub proved : Summary → Microcents → Microcents → Reply
-proved s a b = proof_reply (record { version = s.head.last_version; accounts = s.rows; active = s.active; initial_total = a; committed_total = b })
+abbrev pub proved : Summary → Totals → Reply
+proved s t = done (carries_proof (record { version = s.head.last_version; accounts = s.rows; active = s.active; initial_total = t.initial; committed_total = t.committed }))
 
 module _ (L : Ledger) (known : Sound L) where
   pub certificate-sound : Sound (certificate_of_ledger L).ledger
@@ -74,20 +85,20 @@ module _ (L : Ledger) (not_last : next_id_is_m L ≡ false) where
   unfolding conservation_proof
   proof-overflows e = goes_on _ ∙ (rw e)
 
-  pub proof-is : (a b : Microcents) → Fitting (initial_total (account_rows L.places)) (committed_rows_total (account_rows L.places)) a b → conservation_proof L ≡ outcome (proved (summary_of L) a b) (headed (summary_of L).head L)
+  pub proof-is : (t : Totals) → Fitting (initial_total (account_rows L.places)) (committed_rows_total (account_rows L.places)) t → conservation_proof L ≡ outcome (proved (summary_of L) t) (headed (summary_of L).head L)
   unfolding conservation_proof
-  proof-is a b f =
-      goes_on _ ∙ (rw f.fit (λ i. outcome (proved (summary_of L) (record { 0 = sym f.initial_is i }) (record { 0 = sym f.committed_is i })) (headed (summary_of L).head L)))
+  proof-is t f =
+      goes_on _ ∙ (rw f.fit (λ i. outcome (proved (summary_of L) (record { initial = record { 0 = sym f.initial_is i }; committed = record { 0 = sym f.committed_is i } })) (headed (summary_of L).head L)))
 
 -- ── the room ───────────────────────────────────────────────────────────────────────────────────
 
 module _ (xs : List ℕ) (L : Ledger) (room : IsRoom xs L) (f : Ledger → Outcome) where
   -- no id is left to draw
-  pub stays : (o : Outcome) → f L ≡ taking_snapshot L o → next_id_is_m L ≡ true → Performed f L (reply_of AllocatorExhausted) xs
+  pub stays : (o : Outcome) → f L ≡ taking_snapshot L o → (e : Refusal) → (next_id_is_m L ≡ true) × (e ≡ refusal.AllocatorExhausted) → Performed f L (reply_of (refusal_of e)) xs
   unfolding taking_snapshot
-  stays o e last =
-      let q : f L ≡ refused AllocatorExhausted L = e ∙ (rw last) in
-      record { answer = sym (ap (λ o. o.reply) q); room = subst (IsRoom xs) (sym (ap (λ o. o.ledger) q)) room }
+  stays o taking e (last, is) =
+      let q : f L ≡ refused AllocatorExhausted L = taking ∙ (rw last) in
+      record { answer = ap (λ e. reply_of (refusal_of e)) is ∙ sym (ap (λ o. o.reply) q); room = subst (IsRoom xs) (sym (ap (λ o. o.ledger) q)) room }
 
   -- another head in the room
   pub becomes : Sound (f L).ledger → (r s : Reply) (g h : Head) → f L ≡ outcome s (headed h L) → r ≡ s → g ≡ h

@@ -90,12 +90,10 @@ fn totals_of_places(room: &[u8]) -> Option<Totals>
     let used = sizes.used as usize;
     let mut initial = totals::nothing();
     let mut committed = totals::nothing();
-    let mut i = 0;
-    while i < used {
+    for i in 0..used {
         let place = records::load_place(room, i);
         initial = totals::plus(initial, numbers::amount(place.initial));
         committed = totals::plus(committed, numbers::amount(place.committed));
-        i += 1;
     }
     fit_both(initial, committed)
 }
@@ -209,14 +207,7 @@ pub fn of_ledger(room: &mut [u8]) -> Result<Certificate, Refusal>
     tables::put_head(room, rotated.head);
     let since = numbers::amount(rotated.since);
     let version = head.last_version;
-    Ok(certify(
-        version,
-        summary.rows,
-        summary.active,
-        true,
-        totals,
-        since,
-    ))
+    Ok(certify(version, summary.rows, summary.active, true, totals, since))
 }
 
 // The head is stamped before the totals are looked at, so 15 leaves it stamped.

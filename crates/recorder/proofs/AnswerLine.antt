@@ -15,19 +15,20 @@ use Rattle.rules.proofs.AnswerLines.{answer-only}
 use Rattle.digits.specs.Decoding.{FrontDecoded}
 use Rattle.digits.proofs.Decoding.{no_line, whole-line, room-holds}
 use Rattle.recorder.specs.Reading.{ReadsAnswer, StandsInFront, LineRead, ReadsLine}
-use Rattle.recorder.specs.declared.answer_reader.AnswerRead.{AnswerRead}
-use Rattle.recorder.specs.declared.answer_reader.AnswerRead.TheVariants as answer
+use Rattle.refusals.specs.declared.Refusal.{Refusal}
+use Rattle.refusals.specs.declared.Refusal.TheVariants.{BadFrame}
+use Rattle.std.specs.Prelude.{Result, Err}
 
 module _ (code : ℕ) (line before after : List ℕ) (room : length line ≤ 2 * length before) where
-  read_as : {words words-after : List ℕ} {r : AnswerRead} → LineRead (answer_of_line code line) line before after words words-after r → ReadsLine code line before after words words-after r
+  read_as : {words words-after : List ℕ} {r : Result (Unit {0}) Refusal} → LineRead (answer_of_line code line) line before after words words-after r → ReadsLine code line before after words words-after r
   read_as read = record { too_short = λ h. absurd (omega arith); long_enough = λ _. read }
 
   module _ {size : ℕ} (front : FrontDecoded line before after size) where
-    pub broken : size + size < length line → (words : List ℕ) → ReadsLine code line before after words words answer.BadFrame
+    pub broken : size + size < length line → (words : List ℕ) → ReadsLine code line before after words words (Err BadFrame)
     unfolding answer_of_line
     broken h words =
         let none_read : answer_of_line code line ≡ none = ap (answer_in code) (no_line front h) in
-        read_as (subst (λ o. LineRead o line before after words words answer.BadFrame) (sym none_read)
+        read_as (subst (λ o. LineRead o line before after words words (Err BadFrame)) (sym none_read)
         record { size = size; front = front; bytes = tt; answer = record { answer = refl; words = refl } })
 
     in_front : length line ≤ size + size → StandsInFront (answer_of_bytes code (take size after)) before after
@@ -39,7 +40,7 @@ module _ (code : ℕ) (line before after : List ℕ) (room : length line ≤ 2 *
         room-holds front ∙ ap₂ (λ bs n. bs ++ drop n before) (sym same) long)
         refl
 
-    pub decoded : length line ≤ size + size → (words words-after : List ℕ) (r : AnswerRead) → ReadsAnswer (answer_of_bytes code (take size after)) words words-after r
+    pub decoded : length line ≤ size + size → (words words-after : List ℕ) (r : Result (Unit {0}) Refusal) → ReadsAnswer (answer_of_bytes code (take size after)) words words-after r
         → ReadsLine code line before after words words-after r
     unfolding answer_of_line
     decoded h words words-after r reads =

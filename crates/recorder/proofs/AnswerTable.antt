@@ -18,7 +18,6 @@ use Rattle.rules.proofs.Tests.{by-test, by_bool, by-option, and-true, true-false
 use Rattle.rules.proofs.Lists.{first-none, first-all, all_map}
 use Rattle.recorder.specs.Shapes.{Kind, a_word, a_byte, a_flag, a_name, a_snapshot, kind_of, kinds_in}
 use Rattle.recorder.specs.Refusals.{forms_at, bit_of, refusal_set, carrying, carried_in, carried_by}
-use Rattle.recorder.specs.AnswerWords.{count_in}
 
 -- a proof of all, one by one
 infixr 5 ◌and◌
@@ -36,21 +35,6 @@ no_row code h = first-none (λ (a : Answers). eqb code a.code) answer_table
 
 pub no-forms : (code : ℕ) → (1 ≤ code → 14 < code) → forms_at code ≡ []
 no-forms code h = ap forms_in (no_row code h)
-
--- a number that is none of those that carry something
-pub carries-nothing : (number : ℕ) → All (λ (r : Reply). number ≡ r.number → ⊥) carrying → carried_by number ≡ []
-unfolding carried_by
-carries-nothing number other = ap carried_in (first-none (λ (r : Reply). eqb number r.number) carrying
-    (all_map (λ (r : Reply). number ≡ r.number → ⊥) (λ r. eqb number r.number ≡ false) (λ r. ne_eqb number r.number) carrying other))
-
--- what a match over the numbers 1 to k leaves
-abbrev NoneOf : (n k : ℕ) → Type 0
-NoneOf n zero = Unit {0}
-NoneOf n (suc k) = NoneOf n k × (n ≡ suc k → ⊥)
-
-pub above : (n k : ℕ) → NoneOf n k → 1 ≤ n → k < n
-above n zero h low = low
-above n (suc k) (h, other) low = let below : k < n = above n k h low in omega arith
 
 -- no answer has a number above 24
 numbers-end : All (λ (a : Answers). All (λ (r : Reply). r.number ≤ 24) a.forms) answer_table
@@ -181,6 +165,10 @@ module _ (code number : ℕ) (low : 1 ≤ number) (high : number ≤ 24) where
 
 -- ── how many values ────────────────────────────────────────────────────────────────────────────
 
+abbrev count_in : Option (List Kind) → ℕ
+count_in none = 0
+count_in (some ks) = length ks
+
 carried-few : (number : ℕ) → length (carried_by number) ≤ 3
 unfolding carried_by carrying
 carried-few number = by-option (λ o. first (λ (r : Reply). eqb number r.number) carrying ≡ o → length (carried_in o) ≤ 3) (first (λ (r : Reply). eqb number r.number) carrying)
@@ -194,9 +182,11 @@ behind-few code number = by-test (λ o. count_in o ≤ 3) (eqb (bit_at code numb
     (λ _. by-test (λ ks. length ks ≤ 3) (eqb number 4 && eqb code 2) (λ _. omega arith) (λ _. carried-few number))
 
 -- a refusal carries at most three
-pub many-is-done : (code number : ℕ) → 4 ≤ count_in (kinds_in (form_of code number)) → number ≡ 0
-many-is-done code zero many = refl
-many-is-done code (suc n) many = by_bool (λ _. suc n ≡ 0) (ltb 24 (suc n))
+pub many-is-done : (code number : ℕ) (ks : List Kind) → some ks ≡ kinds_in (form_of code number) → 4 ≤ length ks → number ≡ 0
+many-is-done code zero ks is many = refl
+many-is-done code (suc n) ks is many =
+    let counted : length ks ≡ count_in (kinds_in (form_of code (suc n))) = ap count_in is in
+    by_bool (λ _. suc n ≡ 0) (ltb 24 (suc n))
     (λ t. let none-there : count_in (kinds_in (form_of code (suc n))) ≡ 0 = ap (λ o. count_in (kinds_in o)) (beyond code (suc n) (ltb-true 24 (suc n) t)) in absurd (omega arith))
     (λ t. let few = behind-few code (suc n) in
     let same_count : count_in (kinds_in (form_of code (suc n))) ≡ count_in (behind code (suc n)) = ap count_in (agreed code (suc n) (omega arith) (ltb-false 24 (suc n) t)) in

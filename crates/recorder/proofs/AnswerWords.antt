@@ -12,7 +12,7 @@ use lib.Dec.{ltb, eqb}
 use lib.ListN.{length, take, drop, get_or, length-drop, length-map}
 use lib.Seq.{drop-cons, take-length}
 use Rattle.rules.specs.Lists.{any, All}
-use Rattle.rules.specs.RoomAndSoundLedger.{longest_name, IsByte}
+use Rattle.rules.specs.RoomAndSoundLedger.{IsByte}
 use Rattle.rules.specs.AnswerNumbers.{Value, Amount, Identifier, Version, Fence, Count, Field, YesOrNo, TheName, SnapshotBytes, Reply, reply}
 use Rattle.rules.specs.AnswerNumbers as numbers
 use Rattle.rules.specs.SnapshotsMigrationCertificates.{Snapshot, bytes_of, signed, name_bytes, snapshot_bytes, snapshot_of_bytes, has_long_name}
@@ -23,42 +23,23 @@ use Rattle.rules.proofs.Tests.{by-test, by_bool, by-option, or-false, true-false
 use Rattle.rules.proofs.Lists.{first_passes}
 use Rattle.rules.proofs.Numbers.{word-of-signed}
 use Rattle.rules.proofs.SnapshotBytes.{snapshot-only, longest}
-use Rattle.snapshot_reader.specs.declared.Checked.{Checked}
-use Rattle.snapshot_reader.specs.declared.Checked.TheVariants.{Passes, NameTooLong, BadFrame}
+use Rattle.std.specs.Prelude.{Result, Ok, Err}
+use Rattle.refusals.specs.declared.Refusal.{Refusal}
+use Rattle.refusals.specs.declared.Refusal.TheVariants.{NameTooLong, BadFrame}
+use Rattle.refusals.specs.Answers.{refusal_of}
 use Rattle.snapshot_reader.specs.Standing.{is_read}
 use Rattle.recorder.specs.declared.answer_table.Shape.{Shape}
 use Rattle.recorder.specs.declared.answer_table.Shape.TheVariants as shape
 use Rattle.recorder.specs.Shapes.{Kind, a_word, a_byte, a_flag, a_name, a_snapshot, kind_of, kinds_of, kinds_in}
-use Rattle.recorder.specs.AnswerWords.{is_bad, is_long, bad_from, long_is_in, judged_as, head_of, tail_of, count_in}
+use Rattle.recorder.specs.Recording.{Records}
+use Rattle.recorder.specs.AnswerWords.{is_bad, is_long, bad_from, long_is_in, judged_as, head_of, tail_of}
 
 -- ── what passes ────────────────────────────────────────────────────────────────────────────────
 
-pub both_false : (bad long : Bool) → cond bad BadFrame (cond long NameTooLong Passes) ≡ Passes → (bad ≡ false) × (long ≡ false)
+both_false : (bad long : Bool) → ◌≡◌ {A = Result (Unit {0}) Refusal} (cond bad (Err BadFrame) (cond long (Err NameTooLong) (Ok tt))) (Ok tt) → (bad ≡ false) × (long ≡ false)
 both_false true long e = absurd (let z : ◌≡◌ {A = ℕ} 0 1 = cc in omega arith)
 both_false false true e = absurd (let z : ◌≡◌ {A = ℕ} 0 1 = cc in omega arith)
 both_false false false e = (refl, refl)
-
-module _ (words part : List ℕ) where
-  pub short-name : (ks : List Kind) → judged_as (some (a_name ∷ ks)) words part ≡ Passes → length part ≤ longest_name
-  short-name ks e =
-      let (_, long) = both_false (bad_from (a_name ∷ ks) 1 words part) (long_is_in (a_name ∷ ks) part) e in
-      ltb-false longest_name (length part) (or-false (ltb longest_name (length part)) (long_is_in ks part) long).0
-
-  pub small-field : judged_as (kinds_of shape.NamedField) words part ≡ Passes → get_or words 2 0 ≤ 255
-  small-field e =
-      let (bad, _) = both_false (ltb 255 (get_or words 2 0) || false) (long_is_in (a_name ∷ a_byte ∷ a_word ∷ []) part) e in
-      ltb-false 255 (get_or words 2 0) (or-false (ltb 255 (get_or words 2 0)) false bad).0
-
-  pub certificate-flags : judged_as (kinds_of shape.Certificate) words part ≡ Passes → (get_or words 4 0 ≤ 1) × (get_or words 7 0 ≤ 1)
-  certificate-flags e =
-      let (bad, _) = both_false (ltb 1 (get_or words 4 0) || (ltb 1 (get_or words 7 0) || false)) false e in
-      let (balanced, others) = or-false (ltb 1 (get_or words 4 0)) (ltb 1 (get_or words 7 0) || false) bad in
-      (ltb-false 1 (get_or words 4 0) balanced, ltb-false 1 (get_or words 7 0) (or-false (ltb 1 (get_or words 7 0)) false others).0)
-
-  pub proof-flag : judged_as (kinds_of shape.Proof) words part ≡ Passes → get_or words 6 0 ≤ 1
-  proof-flag e =
-      let (bad, _) = both_false (ltb 1 (get_or words 6 0) || false) false e in
-      ltb-false 1 (get_or words 6 0) (or-false (ltb 1 (get_or words 6 0)) false bad).0
 
 -- ── a value ────────────────────────────────────────────────────────────────────────────────────
 
@@ -165,32 +146,27 @@ module _ (words part : List ℕ) (fit : (i : ℕ) → IsWord (get_or words i 0))
 -- ── the whole answer ───────────────────────────────────────────────────────────────────────────
 
 -- what writing comes to, once an answer is judged
-abbrev pub outcome : Checked → (text room : List ℕ) → Recording
-outcome BadFrame text room = unwritten numbers.BadFrame room
-outcome NameTooLong text room = unwritten numbers.NameTooLong room
-outcome Passes text room = fitting text room
+abbrev pub outcome : Result (Unit {0}) Refusal → (text room : List ℕ) → Recording
+outcome (Ok x) text room = fitting text room
+outcome (Err e) text room = unwritten (refusal_of e) room
 
-by_length : (long : Bool) (text room : List ℕ) → cond long (unwritten numbers.NameTooLong room) (fitting text room) ≡ outcome (cond long NameTooLong Passes) text room
+by_length : (long : Bool) (text room : List ℕ) → cond long (unwritten numbers.NameTooLong room) (fitting text room) ≡ outcome (cond long (Err NameTooLong) (Ok tt)) text room
 by_length true text room = refl
 by_length false text room = refl
 
-abbrev carried_bytes : Option (List Kind) → (words part : List ℕ) → List ℕ
-carried_bytes none words part = []
-carried_bytes (some ks) words part = bytes_from ks 1 words part
-
-abbrev line_with : (number : ℕ) → Option (List Kind) → (words part : List ℕ) → List ℕ
-line_with number o words part = line_of_bytes (bytes_of 1 number ++ carried_bytes o words part)
+abbrev line_with : (number : ℕ) → List Kind → (words part : List ℕ) → List ℕ
+line_with number ks words part = line_of_bytes (bytes_of 1 number ++ bytes_from ks 1 words part)
 
 module _ (words part room : List ℕ) (fit : (i : ℕ) → IsWord (get_or words i 0)) (bytes_fit : All IsByte part) where
   filled : (number : ℕ) (form : Reply) → form.number ≡ number → 1 + length form.carried ≤ length words
       → recording line_in (Option.map answer_written (form_filled (some form) (drop 1 words) part)) room
-      ≡ outcome (judged_as (kinds_in (some form)) words part) (line_with number (kinds_in (some form)) words part) room
+      ≡ outcome (judged_as (map kind_of form.carried) words part) (line_with number (map kind_of form.carried) words part) room
   unfolding recording line_in bytes_in
   filled number form same enough =
       let ks = map kind_of form.carried in
       let with_values : Option (List Value) → Recording = λ o. recording line_in (Option.map answer_written (Option.map (reply form.number) o)) room in
-      let text = line_with number (some ks) words part in
-      by_bool (λ b. bad_from ks 1 words part ≡ b → with_values (values_like form.carried (drop 1 words) part) ≡ outcome (cond b BadFrame (cond (long_is_in ks part) NameTooLong Passes)) text room)
+      let text = line_with number ks words part in
+      by_bool (λ b. bad_from ks 1 words part ≡ b → with_values (values_like form.carried (drop 1 words) part) ≡ outcome (cond b (Err BadFrame) (cond (long_is_in ks part) (Err NameTooLong) (Ok tt))) text room)
       (bad_from ks 1 words part)
       (λ _ t. ap with_values (unlikes words part fit bytes_fit form.carried 1 enough t))
       (λ _ t. let l = likes words part fit bytes_fit form.carried 1 enough t in
@@ -204,24 +180,26 @@ form-number : (code number : ℕ) (form : Reply) → form_of code number ≡ som
 unfolding form_of
 form-number code number form e = sym (eqb-true number form.number (first_passes (λ (r : Reply). eqb number r.number) _ form e))
 
-answer-is : (code : ℕ) (words part room : List ℕ) → ((i : ℕ) → IsWord (get_or words i 0)) → All IsByte part → 1 + count_in (kinds_in (form_of code (get_or words 0 0))) ≤ length words
-    → record_answer line_in code words part room
-    ≡ outcome (judged_as (kinds_in (form_of code (get_or words 0 0))) words part) (line_with (get_or words 0 0) (kinds_in (form_of code (get_or words 0 0))) words part) room
+answer-is : (code : ℕ) (words part room : List ℕ) → ((i : ℕ) → IsWord (get_or words i 0)) → All IsByte part
+    → (ks : List Kind) → some ks ≡ kinds_in (form_of code (get_or words 0 0)) → 1 + length ks ≤ length words
+    → record_answer line_in code words part room ≡ outcome (judged_as ks words part) (line_with (get_or words 0 0) ks words part) room
 unfolding record_answer recording answer_of_words
-answer-is code [] part room fit bytes_fit enough = absurd (omega arith)
-answer-is code (number ∷ rest) part room fit bytes_fit enough =
-    by-option (λ o. form_of code number ≡ o → 1 + count_in (kinds_in o) ≤ length (number ∷ rest) → recording line_in (Option.map answer_written (form_filled o rest part)) room
-    ≡ outcome (judged_as (kinds_in o) (number ∷ rest) part) (line_with number (kinds_in o) (number ∷ rest) part) room)
+answer-is code [] part room fit bytes_fit ks is enough = absurd (omega arith)
+answer-is code (number ∷ rest) part room fit bytes_fit ks is enough =
+    by-option (λ o. form_of code number ≡ o → some ks ≡ kinds_in o → recording line_in (Option.map answer_written (form_filled o rest part)) room
+    ≡ outcome (judged_as ks (number ∷ rest) part) (line_with number ks (number ∷ rest) part) room)
     (form_of code number)
-    (λ _ _ _. refl)
-    (λ form _ e room_for. filled (number ∷ rest) part room fit bytes_fit number form (form-number code number form e) (omega (arith, length-map form.carried kind_of)))
-    refl enough
+    (λ _ _ other. absurd (let z : ◌≡◌ {A = ℕ} 0 1 = cc in omega arith))
+    (λ form _ e same. let kinds : map kind_of form.carried ≡ ks = cc in
+    let room_for : 1 + length form.carried ≤ length (number ∷ rest) = omega (arith, length-map form.carried kind_of, ap length kinds) in
+    subst (λ ks. recording line_in (Option.map answer_written (form_filled (some form) rest part)) room ≡ outcome (judged_as ks (number ∷ rest) part) (line_with number ks (number ∷ rest) part) room) kinds
+    (filled (number ∷ rest) part room fit bytes_fit number form (form-number code number form e) room_for))
+    refl is
 
 -- ── by its shape ───────────────────────────────────────────────────────────────────────────────
 
 -- no shape has more than eight values
-few : (s : Shape) → count_in (kinds_of s) ≤ 8
-few shape.NoAnswer = omega arith
+few : (s : Shape) → length (kinds_of s) ≤ 8
 few shape.Nothing = omega arith
 few shape.Word = omega arith
 few shape.TwoWords = omega arith
@@ -234,9 +212,8 @@ few shape.Certificate = omega arith
 few shape.Proof = omega arith
 
 -- head and tail together
-joined : (s : Shape) (number : ℕ) (words part : List ℕ) → reply_bytes (head_of (kinds_of s) number words part) ++ tail_of (kinds_of s) part ≡ bytes_of 1 number ++ carried_bytes (kinds_of s) words part
+joined : (s : Shape) (number : ℕ) (words part : List ℕ) → reply_bytes (head_of (kinds_of s) number words part) ++ tail_of (kinds_of s) part ≡ bytes_of 1 number ++ bytes_from (kinds_of s) 1 words part
 unfolding reply_bytes flat_map bytes_of
-joined shape.NoAnswer number words part = append-nil _
 joined shape.Nothing number words part = append-nil _
 joined shape.Word number words part = append-nil _
 joined shape.TwoWords number words part = append-nil _
@@ -255,10 +232,9 @@ snapshot-size part bytes_fit (some s) is bad long =
     let (bytes, fits) = snapshot-only part bytes_fit s is in
     subst (λ l. length l ≤ longest_snapshot) bytes (longest s fits.count (or-false (has_long_name s.rows) false long).0)
 
-pub fits-frame : (s : Shape) (number : ℕ) (words part : List ℕ) → All IsByte part → judged_as (kinds_of s) words part ≡ Passes → length (reply_bytes (head_of (kinds_of s) number words part)) ≤ longest_frame
+pub fits-frame : (s : Shape) (number : ℕ) (words part : List ℕ) → All IsByte part → judged_as (kinds_of s) words part ≡ Ok tt → length (reply_bytes (head_of (kinds_of s) number words part)) ≤ longest_frame
     → length (reply_bytes (head_of (kinds_of s) number words part)) + length (tail_of (kinds_of s) part) ≤ longest_frame
 unfolding reply_bytes flat_map bytes_of
-fits-frame shape.NoAnswer number words part bytes_fit e h = omega arith
 fits-frame shape.Nothing number words part bytes_fit e h = omega arith
 fits-frame shape.Word number words part bytes_fit e h = omega arith
 fits-frame shape.TwoWords number words part bytes_fit e h = omega arith
@@ -278,22 +254,35 @@ unfolding record_answer recording answer_of_words
 no-form code [] part room some-there is = absurd (omega arith)
 no-form code (number ∷ rest) part room some-there is = ap (λ o. recording line_in (Option.map answer_written (form_filled o rest part)) room) is
 
-module _ (code : ℕ) (words part room : List ℕ) (number : ℕ) (first_word : number ≡ get_or words 0 0) where
-  pub judged-is : ((i : ℕ) → IsWord (get_or words i 0)) → All IsByte part → length words ≡ 9 → (s : Shape) → kinds_of s ≡ kinds_in (form_of code number)
-      → record_answer line_in code words part room
-      ≡ outcome (judged_as (kinds_of s) words part) (line_of_bytes (reply_bytes (head_of (kinds_of s) number words part) ++ tail_of (kinds_of s) part)) room
-  judged-is fit bytes_fit nine s is =
-      let front = get_or words 0 0 in
-      let kinds : kinds_of s ≡ kinds_in (form_of code front) = is ∙ ap (λ n. kinds_in (form_of code n)) first_word in
-      let count : count_in (kinds_in (form_of code front)) ≤ 8 = subst (λ o. count_in o ≤ 8) kinds (few s) in
-      answer-is code words part room fit bytes_fit (omega arith)
-      ∙ ap (λ o. outcome (judged_as o words part) (line_with front o words part) room) (sym kinds)
-      ∙ ap (λ n. outcome (judged_as (kinds_of s) words part) (line_with n (kinds_of s) words part) room) (sym first_word)
-      ∙ ap (λ bs. outcome (judged_as (kinds_of s) words part) (line_of_bytes bs) room) (sym (joined s number words part))
+module _ (code : ℕ) (words part room : List ℕ) where
+  abbrev number : ℕ
+  number = get_or words 0 0
 
   -- a number that the operation is never answered with
-  pub none_is : 1 ≤ length words → form_of code number ≡ none → record_answer line_in code words part room ≡ unwritten numbers.BadFrame room
-  none_is some-there is = no-form code words part room some-there (ap (form_of code) (sym first_word) ∙ is)
+  pub none_is : 1 ≤ length words → form_of code number ≡ none → Records (record_answer line_in code words part room) room (Err BadFrame)
+  none_is some-there is = rw (no-form code words part room some-there is) (record { reply = refl; room = refl })
+
+  -- by what judging has told
+  module _ (fit : (i : ℕ) → IsWord (get_or words i 0)) (bytes_fit : All IsByte part) (nine : length words ≡ 9) (s : Shape) (is : some (kinds_of s) ≡ kinds_in (form_of code number))
+      {judged : Result (Unit {0}) Refusal} (judged_is : judged ≡ judged_as (kinds_of s) words part) where
+    abbrev text : List ℕ
+    text = line_of_bytes (reply_bytes (head_of (kinds_of s) number words part) ++ tail_of (kinds_of s) part)
+
+    rule-is : {told : Result (Unit {0}) Refusal} → judged ≡ told → record_answer line_in code words part room ≡ outcome told text room
+    rule-is {told} e =
+        answer-is code words part room fit bytes_fit (kinds_of s) is (omega (arith, few s))
+        ∙ ap (λ bs. outcome (judged_as (kinds_of s) words part) (line_of_bytes bs) room) (sym (joined s number words part))
+        ∙ ap (λ j. outcome j text room) (sym judged_is ∙ e)
+
+    pub refused : {e : Refusal} {r : Result ℕ Refusal} → judged ≡ Err e → r ≡ Err e → Records (record_answer line_in code words part room) room r
+    refused told answered = rw (rule-is told, answered) (record { reply = refl; room = refl })
+
+    pub written : {x : Unit {0}} {after : List ℕ} {r : Result ℕ Refusal} → judged ≡ Ok x → Records (fitting text room) after r → Records (record_answer line_in code words part room) after r
+    written {after = after} {r = r} told records = subst (λ rule. Records rule after r) (sym (rule-is told)) records
+
+pub formless : (o : Option Reply) → none ≡ kinds_in o → o ≡ none
+formless none e = refl
+formless (some form) e = absurd (let z : ◌≡◌ {A = ℕ} 0 1 = cc in omega arith)
 
 -- ── head and tail as they stand ────────────────────────────────────────────────────────────────
 

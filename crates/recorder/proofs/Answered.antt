@@ -1,5 +1,5 @@
 -- From the values of an answer to the answer: the rules read its number first and pick the form by it, and what they read along the form is the answer's (`answered`).
-use mathlib.Core.Path.{◌≡◌, refl, sym, ◌∙◌, ap, subst}
+use mathlib.Core.Path.{◌≡◌, refl, sym, ◌∙◌, ap}
 use mathlib.Core.Bool.{cond}
 use mathlib.Core.List.{List, [], ◌∷◌, ◌++◌, map}
 use mathlib.Core.Option
@@ -8,6 +8,7 @@ use Prim.Native.Nat.{ℕ, suc, ◌-◌, ◌≤◌}
 use native.Mathlib.Omega.{arith}
 use lib.Dec.{eqb}
 use lib.ListN.{length, drop, get_or, replicate}
+use Rattle.std.specs.Prelude.{Option as Answer, Ok, Err}
 use Rattle.rules.specs.AnswerNumbers.{Value, Reply, reply}
 use Rattle.rules.specs.SnapshotsMigrationCertificates.{reads, go_on, whole, read_number, read_part}
 use Rattle.rules.specs.Recorder.{form_of, read_likes, read_form, read_answer, answer_of_bytes, word_of, words_of}
@@ -15,9 +16,8 @@ use Rattle.rules.proofs.Tests.{by_bool, by-option}
 use Rattle.rules.proofs.AnswerLines.{form-number}
 use Rattle.snapshot_reader.proofs.RowBytes.{goes_on, number-takes, byte_at}
 use Rattle.recorder.specs.Shapes.{Kind, kinds_in}
-use Rattle.recorder.specs.Reading.{filled, most_words, values_in, CarriesAs, ReadsAnswer}
-use Rattle.recorder.specs.declared.answer_reader.Carried.{Carried}
-use Rattle.recorder.specs.declared.answer_reader.AnswerRead.TheVariants as answer
+use Rattle.recorder.specs.Reading.{filled, most_words, values_in, Carries, ReadsAnswer}
+use Rattle.refusals.specs.declared.Refusal.TheVariants.{BadFrame}
 
 pub empty : (code : ℕ) (bs : List ℕ) → length bs ≡ 0 → answer_of_bytes code bs ≡ none
 unfolding answer_of_bytes read_answer read_number read_part
@@ -56,23 +56,33 @@ module _ (code : ℕ) (bs : List ℕ) (h : 1 ≤ length bs) where
   abbrev number : ℕ
   number = get_or bs 0 0
 
-  pub answered : (kinds : Option (List Kind)) → kinds ≡ kinds_in (form_of code number) → (r : Carried) → CarriesAs kinds bs r
+  -- no form has this number
+  pub formless : none ≡ kinds_in (form_of code number) → answer_of_bytes code bs ≡ none
+  formless e = by_number code bs h ∙ by-option (λ o. none ≡ kinds_in o → whole (read_form o (drop 1 bs)) ≡ none) (form_of code number)
+      (λ _ _. refl)
+      (λ form _ f. absurd (let z : ◌≡◌ {A = ℕ} 0 1 = cc in omega arith))
+      e
+
+  pub answered : (kinds : List Kind) → some kinds ≡ kinds_in (form_of code number) → (r : Answer (List ℕ)) → Carries kinds bs r
       → Option.map (λ ws. number ∷ ws) (values_in r) ≡ words_in (answer_of_bytes code bs)
   answered kinds e r carries = by_form ∙ ap words_in (sym (by_number code bs h))
     where
       by_form : Option.map (λ ws. number ∷ ws) (values_in r) ≡ words_in (whole (read_form (form_of code number) (drop 1 bs)))
-      by_form = by-option (λ o. form_of code number ≡ o → CarriesAs (kinds_in o) bs r → Option.map (λ ws. number ∷ ws) (values_in r) ≡ words_in (whole (read_form o (drop 1 bs)))) (form_of code number)
-          (λ _ _ c. ap (λ x. Option.map (λ ws. number ∷ ws) (values_in x)) c)
-          (λ form _ f c. ap (Option.map (λ ws. number ∷ ws)) (c form.carried refl)
+      by_form = by-option (λ o. form_of code number ≡ o → some kinds ≡ kinds_in o → Option.map (λ ws. number ∷ ws) (values_in r) ≡ words_in (whole (read_form o (drop 1 bs)))) (form_of code number)
+          (λ _ _ same. absurd (let z : ◌≡◌ {A = ℕ} 0 1 = cc in omega arith))
+          (λ form _ f same. ap (Option.map (λ ws. number ∷ ws)) (carries form.carried (cc))
           ∙ ap (λ n. Option.map (λ ws. n ∷ ws) (Option.map (λ vs. filled 8 (map word_of vs)) (whole (read_likes form.carried (drop 1 bs))))) (form-number code number form f)
           ∙ with_number form.number (whole (read_likes form.carried (drop 1 bs)))
           ∙ ap words_in (sym (by_values form (drop 1 bs))))
-          refl (subst (λ ks. CarriesAs ks bs r) e carries)
+          refl e
 
-pub no_answer : (o : Option Reply) (before : List ℕ) → none ≡ words_in o → ReadsAnswer o before before answer.BadFrame
+pub absent : (o : Option Reply) (before : List ℕ) → o ≡ none → ReadsAnswer o before before (Err BadFrame)
+absent o before e = rw e (record { answer = refl; words = refl })
+
+pub no_answer : (o : Option Reply) (before : List ℕ) → none ≡ words_in o → ReadsAnswer o before before (Err BadFrame)
 no_answer none before e = record { answer = refl; words = refl }
 no_answer (some a) before e = absurd (let z : ◌≡◌ {A = ℕ} 0 1 = cc in omega arith)
 
-pub an-answer : (o : Option Reply) (before after : List ℕ) {words : List ℕ} → some words ≡ words_in o → after ≡ words → ReadsAnswer o before after answer.Answer
+pub an-answer : (o : Option Reply) (before after : List ℕ) {words : List ℕ} → some words ≡ words_in o → after ≡ words → ReadsAnswer o before after (Ok tt)
 an-answer none before after e same = absurd (let z : ◌≡◌ {A = ℕ} 0 1 = cc in omega arith)
 an-answer (some a) before after e same = record { answer = refl; words = cc }

@@ -6,18 +6,19 @@ use native.Mathlib.Omega.{arith}
 use borrow.Author.Tests.{lt-ltb, le-ltb}
 use lib.ListN.{length, take, drop, length-append, length-drop}
 use lib.Seq.{take_all, drop_at, drop-drop}
+use Rattle.std.specs.Prelude.{Ok, Err}
 use Rattle.rules.specs.Recorder.{fitting}
 use Rattle.records.specs.Rows.{put}
 use Rattle.records.proofs.Rows.{two-halves}
 use Rattle.recorder.specs.Recording.{Records}
-use Rattle.recorder.specs.declared.Recorded.TheVariants.{Written, OutputTooShort}
+use Rattle.refusals.specs.declared.Refusal.TheVariants.{OutputTooShort}
 
 module _ (text room : List ℕ) (size : ℕ) (is : length text ≡ size) where
-  pub too_short : length room < size → Records (fitting text room) room OutputTooShort
+  pub too_short : length room < size → Records (fitting text room) room (Err OutputTooShort)
   unfolding fitting
   too_short h = rw (lt-ltb (length room) (length text) (omega (arith, is))) (record { reply = refl; room = refl })
 
-  pub fits : {after : List ℕ} → size ≤ length room → after ≡ text ++ drop size room → Records (fitting text room) after (Written size)
+  pub fits : {after : List ℕ} → size ≤ length room → after ≡ text ++ drop size room → Records (fitting text room) after (Ok size)
   unfolding fitting
   fits h e = rw (le-ltb (length room) (length text) (omega (arith, is)), is) (record { reply = refl; room = e })
 

@@ -7,24 +7,25 @@ use mathlib.Core.List.{List, [], ◌∷◌, ◌++◌, flat_map, append_assoc, ap
 use mathlib.Core.Option.{Option, none, some}
 use Prim.Native.Nat.{ℕ, zero, suc, ◌≤◌, ◌<◌}
 use native.Mathlib.Omega.{arith}
-use lib.IntN.{ℤ}
 use lib.ListN.{length, take, drop, length-append}
 use lib.Seq.{take_at}
+use Rattle.std.specs.Prelude.{Result, Err}
 use Rattle.rules.specs.Lists.{first, All}
 use Rattle.rules.specs.RoomAndSoundLedger.{IsByte}
 use Rattle.rules.specs.AnswerNumbers.{Value, Identifier, Reply, reply}
 use Rattle.rules.specs.AccountRules.{is_too_long}
-use Rattle.rules.specs.SnapshotsMigrationCertificates.{Snapshot, bytes_of, amount_bytes, name_bytes, snapshot_bytes, snapshot_of_bytes, has_long_name, twos_complement}
+use Rattle.rules.specs.SnapshotsMigrationCertificates.{Snapshot, bytes_of, amount_bytes, name_bytes, snapshot_bytes, snapshot_of_bytes, has_long_name}
 use Rattle.rules.specs.Frames.{Parts, longest_snapshot, codes, value_bytes, reply_bytes}
 use Rattle.rules.specs.Recorder.{Written, bytes_in, with_parts, operation_of_parts, frame_of_some, fitting, recording, record_operation}
 use Rattle.rules.proofs.Fields.{no_code}
 use Rattle.rules.proofs.Numbers.{bytes-length}
 use Rattle.rules.proofs.SnapshotBytes.{snapshot-only, longest}
-use Rattle.snapshot_reader.specs.Standing.{ShortNames}
+use Rattle.snapshot_reader.specs.Standing.{checked_as, ShortNames}
+use Rattle.snapshot_reader.proofs.Checking.{Says, says}
 use Rattle.answer_bytes.specs.Writing.{WritesReply}
-use Rattle.recorder.specs.Recording.{Records, text_of, RecordsOperation, word_behind}
-use Rattle.recorder.specs.declared.Recorded.{Recorded}
-use Rattle.recorder.specs.declared.Recorded.TheVariants.{NameTooLong, BadFrame}
+use Rattle.recorder.specs.Recording.{Records, RecordsOperation, word_behind}
+use Rattle.refusals.specs.declared.Refusal.{Refusal}
+use Rattle.refusals.specs.declared.Refusal.TheVariants.{NameTooLong, BadFrame}
 
 -- ── the head ───────────────────────────────────────────────────────────────────────────────────
 
@@ -60,33 +61,23 @@ two-values v w = append-nil (value_bytes v ++ (value_bytes w ++ [])) ∙ ap (λ 
 abbrev pub writing : (number : ℕ) → List ℕ → Bool → Option Written
 writing number fields long = some (record { number = number; fields = fields; is_long = long })
 
-module _ (as_line : Bool) (code : ℕ) (p : Parts) (room : List ℕ) where
+module _ (text : List ℕ → List ℕ) (code : ℕ) (p : Parts) (room : List ℕ) where
   -- the operation's bytes are those of the head and the tail
-  pub written : (fields : List ℕ) (long : Bool) (values : List Value) (head tail : List ℕ) {after : List ℕ} {r : Recorded}
+  pub written : (fields : List ℕ) (long : Bool) (values : List Value) (head tail : List ℕ) {after : List ℕ} {r : Result ℕ Refusal}
       → frame_of_some (operation_of_parts code p) ≡ writing code fields long → long ≡ false → head ≡ reply_bytes (reply code values) → flat_map value_bytes values ++ tail ≡ fields
-      → Records (fitting (text_of as_line (head ++ tail)) room) after r → RecordsOperation as_line code p room after r
+      → Records (fitting (text (head ++ tail)) room) after r → RecordsOperation text code p room after r
   unfolding record_operation recording bytes_in reply_bytes
   written fields long values head tail {after} {r} frame short is all h =
       let same : head ++ tail ≡ bytes_of 1 code ++ fields = ap (λ l. l ++ tail) is ∙ append_assoc (bytes_of 1 code) (flat_map value_bytes values) tail ∙ ap (λ l. bytes_of 1 code ++ l) all in
-      rw (frame, short) (subst (λ l. Records (fitting (text_of as_line l) room) after r) same h)
+      rw (frame, short) (subst (λ l. Records (fitting (text l) room) after r) same h)
 
-  pub too_long : (fields : List ℕ) (long : Bool) → frame_of_some (operation_of_parts code p) ≡ writing code fields long → long ≡ true → RecordsOperation as_line code p room room NameTooLong
+  pub too_long : (fields : List ℕ) (long : Bool) → frame_of_some (operation_of_parts code p) ≡ writing code fields long → long ≡ true → RecordsOperation text code p room room (Err NameTooLong)
   unfolding record_operation recording
   too_long fields long frame is = rw (frame, is) (record { reply = refl; room = refl })
 
-  pub no-operation : frame_of_some (operation_of_parts code p) ≡ none → RecordsOperation as_line code p room room BadFrame
+  pub no-operation : frame_of_some (operation_of_parts code p) ≡ none → RecordsOperation text code p room room (Err BadFrame)
   unfolding record_operation recording
   no-operation frame = rw frame (record { reply = refl; room = refl })
-
--- the operation of a code that is known
-pub at_code : (as_line : Bool) (p : Parts) (room : List ℕ) {code known : ℕ} {after : List ℕ} {r : Recorded} → code ≡ known → RecordsOperation as_line known p room after r → RecordsOperation as_line code p room after r
-at_code as_line p room {after} {r} e h = subst (λ n. RecordsOperation as_line n p room after r) (sym e) h
-
-pub fence-behind : (code number : ℕ) (amount : ℤ) → code ≡ 10 → word_behind code number amount ≡ number
-fence-behind code number amount e = rw e
-
-pub since-behind : (code number : ℕ) (amount : ℤ) {word : ℕ} → code ≡ 12 → word ≡ twos_complement amount → word_behind code number amount ≡ word
-since-behind code number amount e is = rw e (sym is)
 
 -- ── the list of operations at a code ───────────────────────────────────────────────────────────
 
@@ -138,6 +129,17 @@ word-frame code (inl c) p none e = rw (c, e)
 word-frame code (inl c) p (some s) e = rw (c, e)
 word-frame code (inr c) p none e = rw (c, e)
 word-frame code (inr c) p (some s) e = rw (c, e)
+
+-- bytes that the check has refused are no snapshot, or one with a name that is too long
+pub refused : (text : List ℕ → List ℕ) (code : ℕ) (p : Parts) (room front : List ℕ) {given : Result (Unit {0}) Refusal} {r : Result ℕ Refusal} {e : Refusal}
+    → ((o : Option Snapshot) → snapshot_of_bytes p.part ≡ o → frame_of_some (operation_of_parts code p) ≡ behind code front o)
+    → given ≡ checked_as (snapshot_of_bytes p.part) → given ≡ Err e → r ≡ Err e → RecordsOperation text code p room room r
+refused text code p room front {r = r} {e = e} frame is told answered = subst (RecordsOperation text code p room room) (sym answered) (of-refusal (says p.part is told))
+  where
+    of-refusal : Says p.part (Err e) → RecordsOperation text code p room room (Err e)
+    of-refusal (inl (bad, none_read)) = subst (λ x. RecordsOperation text code p room room (Err x)) (sym bad) (no-operation text code p room (frame none none_read))
+    of-refusal (inr (long, name)) =
+        subst (λ x. RecordsOperation text code p room room (Err x)) (sym long) (too_long text code p room _ _ (frame (some name.snapshot) name.is_read) name.long)
 
 -- a snapshot that passes is spelled as it stands, and no longer than a frame has room for
 pub snapshot-stands : (part : List ℕ) → All IsByte part → (h : ShortNames part) → (snapshot_bytes h.snapshot ≡ part) × (length part ≤ longest_snapshot)

@@ -25,7 +25,7 @@ use Rattle.numbers.proofs.Bytes.{all_take, all_drop}
 use Rattle.snapshot_reader.proofs.RowBytes.{Takes, goes_on, byte_at, number-takes, amount_at, amount-takes, name-takes-from}
 use Rattle.recorder.specs.Shapes.{Kind, a_word, a_byte, a_flag, a_name, a_snapshot, kind_of}
 use Rattle.recorder.specs.Reading.{filled, Carries}
-use Rattle.recorder.specs.declared.answer_reader.Carried.TheVariants as carried
+use Rattle.std.specs.Prelude.{None}
 
 -- ── what stands at a place ─────────────────────────────────────────────────────────────────────
 
@@ -214,14 +214,14 @@ module _ (bs : List ℕ) (bytes : IsBytes bs) where
         ∙ ap (Option.map (filled 8)) (sym (places form (subst (All IsFixed) (sym same) f) 1 h))
         ∙ sym (map-twice (whole (read_likes form (drop 1 bs))))
 
-    pub refuses : values_at kinds 1 bs ≡ none → Carries kinds bs carried.BadFrame
+    pub refuses : values_at kinds 1 bs ≡ none → Carries kinds bs None
     refuses e = carries (ap (Option.map (filled 8)) (sym e))
 
     -- too few bytes, or one is left over
-    pub other-size : (length bs ≡ end_of kinds 1 bs → ⊥) → Carries kinds bs carried.BadFrame
+    pub other-size : (length bs ≡ end_of kinds 1 bs → ⊥) → Carries kinds bs None
     other-size other = refuses (misfit kinds 1 bs other)
 
-  pub nameless : (kinds : List Kind) → All IsFixed kinds → 1 ≤ length bs → (1 < length bs → longest_name < get_or bs 1 0) → Carries (a_name ∷ kinds) bs carried.BadFrame
+  pub nameless : (kinds : List Kind) → All IsFixed kinds → 1 ≤ length bs → (1 < length bs → longest_name < get_or bs 1 0) → Carries (a_name ∷ kinds) bs None
   nameless kinds f h long = refuses (a_name ∷ kinds) (tt, f) h (no_name kinds f bs long)
 
 -- what was read, for what stands there

@@ -18,11 +18,11 @@ use Rattle.rules.proofs.Tests.{by_bool, by-option}
 use Rattle.rules.proofs.SnapshotBytes.{snapshot-only}
 use Rattle.numbers.proofs.Bytes.{all_drop}
 use Rattle.snapshot_reader.specs.Standing.{checked_as}
-use Rattle.snapshot_reader.specs.declared.Checked.{Checked}
-use Rattle.snapshot_reader.specs.declared.Checked.TheVariants as checked
+use Rattle.refusals.specs.declared.Refusal.{Refusal}
+use Rattle.refusals.specs.declared.Refusal.TheVariants.{NameTooLong}
+use Rattle.std.specs.Prelude.{None, Result, Ok, Err}
 use Rattle.recorder.specs.Shapes.{a_snapshot, kind_of}
 use Rattle.recorder.specs.Reading.{filled, Carries}
-use Rattle.recorder.specs.declared.answer_reader.Carried.TheVariants as carried
 
 -- ── the form ───────────────────────────────────────────────────────────────────────────────────
 
@@ -74,11 +74,11 @@ read-alone part bs = by-option (λ o. whole (go_on (go_on o (λ s. unless (has_l
 
 -- ── what the check tells ───────────────────────────────────────────────────────────────────────
 
-refused : (o : Option Snapshot) → (checked_as o ≡ checked.Passes → ⊥) → taken o ≡ none
+refused : (o : Option Snapshot) → (checked_as o ≡ Ok tt → ⊥) → taken o ≡ none
 refused none other = refl
 refused (some s) other = by_bool (λ long. has_long_name s.rows ≡ long → cond long none (some (SnapshotBytes (snapshot_bytes s) ∷ [])) ≡ none) (has_long_name s.rows)
     (λ _ _. refl)
-    (λ _ e. absurd (other (ap (λ b. cond b checked.NameTooLong checked.Passes) e)))
+    (λ _ e. absurd (other (ap (λ b. cond b (Err NameTooLong) (Ok tt)) e)))
     refl
 
 -- the snapshot that passed
@@ -87,14 +87,14 @@ record Passed (o : Option Snapshot) : Type 0 where
   is_read : o ≡ some snapshot
   short : has_long_name snapshot.rows ≡ false
 
-passed : (o : Option Snapshot) → checked_as o ≡ checked.Passes → Passed o
+passed : (o : Option Snapshot) → checked_as o ≡ Ok tt → Passed o
 passed none e = impossible (cc)
-passed (some s) e = by_bool (λ long. has_long_name s.rows ≡ long → cond long checked.NameTooLong checked.Passes ≡ checked.Passes → Passed (some s)) (has_long_name s.rows)
-    (λ _ _ q. impossible (cc))
+passed (some s) e = by_bool (λ long. has_long_name s.rows ≡ long → cond long (Err NameTooLong) (Ok tt) ≡ Ok tt → Passed (some s)) (has_long_name s.rows)
+    (λ _ _ (q : ◌≡◌ {A = Result (Unit {0}) Refusal} (Err NameTooLong) (Ok tt)). impossible (cc))
     (λ _ t _. record { snapshot = s; is_read = refl; short = t })
     refl e
 
-module _ (bs : List ℕ) (bytes : IsBytes bs) (h : 1 ≤ length bs) {r : Checked} (is-checked : r ≡ checked_as (snapshot_of_bytes (take (length bs - 1) (drop 1 bs)))) where
+module _ (bs : List ℕ) (bytes : IsBytes bs) (h : 1 ≤ length bs) {r : Result (Unit {0}) Refusal} (is-checked : r ≡ checked_as (snapshot_of_bytes (take (length bs - 1) (drop 1 bs)))) where
   lent : r ≡ checked_as (snapshot_of_bytes (drop 1 bs))
   lent = is-checked ∙ ap (λ part. checked_as (snapshot_of_bytes part)) (take_all (length bs - 1) (drop 1 bs) (omega (arith, length-drop 1 bs)))
 
@@ -107,10 +107,10 @@ module _ (bs : List ℕ) (bytes : IsBytes bs) (h : 1 ≤ length bs) {r : Checked
       let a = alone form same in
       e ∙ ap (Option.map words_of_all) (sym (ap (λ vs. whole (read_likes vs (drop 1 bs))) a.is ∙ read-alone a.part (drop 1 bs)))
 
-  pub no-snapshot : (r ≡ checked.Passes → ⊥) → Carries (a_snapshot ∷ []) bs carried.BadFrame
+  pub no-snapshot : (r ≡ Ok tt → ⊥) → Carries (a_snapshot ∷ []) bs None
   no-snapshot other = by-check (ap (Option.map words_of_all) (sym (refused (snapshot_of_bytes (drop 1 bs)) (λ e. other (lent ∙ e)))))
 
-  pub a-snapshot : r ≡ checked.Passes → {values : Option (List ℕ)} → values ≡ some ((length bs - 1) ∷ 0 ∷ 0 ∷ 0 ∷ 0 ∷ 0 ∷ 0 ∷ 0 ∷ [])
+  pub a-snapshot : r ≡ Ok tt → {values : Option (List ℕ)} → values ≡ some ((length bs - 1) ∷ 0 ∷ 0 ∷ 0 ∷ 0 ∷ 0 ∷ 0 ∷ 0 ∷ [])
       → (form : List Value) → map kind_of form ≡ a_snapshot ∷ [] → values ≡ Option.map words_of_all (whole (read_likes form (drop 1 bs)))
   a-snapshot passes e =
       let p = passed (snapshot_of_bytes (drop 1 bs)) (sym lent ∙ passes) in

@@ -218,14 +218,18 @@ fn read_carried(shape: Shape, bytes: &[u8]) -> Option<Values>
 }
 
 fn store(number: u8, values: Values, words: &mut [u64; MOST_WORDS])
-    ensures { words.new ≡ number ∷ values.entry }
+    ensures { words.new ≡ number ∷ values }
 {
     words[0] = number as u64;
     words[1..].copy_from_slice(&values);
 }
 
 // The words are stored once, at the end: bytes that are no answer leave them as they were.
-pub fn read_answer_bytes(code: u8, bytes: &[u8], words: &mut [u64; MOST_WORDS]) -> Result<(), Refusal>
+pub fn read_answer_bytes(
+    code: u8,
+    bytes: &[u8],
+    words: &mut [u64; MOST_WORDS],
+) -> Result<(), Refusal>
     ensures { ReadsAnswer (answer_of_bytes code bytes.now) words.old words.new result }
 {
     if bytes.len() == 0 {

@@ -108,6 +108,7 @@ const OF_PROOF: u32 = ALLOCATOR_EXHAUSTED + AGGREGATE_OVERFLOW + UNSOUND_LEDGER;
 
 const OF_STATUS: u32 = NAME_TOO_LONG + CONSERVATION_VIOLATION + AGGREGATE_OVERFLOW;
 
+#[tactic(auto, unfolding(crate::specs::Refusals::refusal_set, rules::specs::Lists::sum, rules::specs::Lists::first, rules::specs::Recorder::answer_table))]
 fn refusals(code: u8) -> u32
     ensures { result ≡ refusal_set code }
 {
@@ -131,6 +132,7 @@ fn refusals(code: u8) -> u32
 }
 
 // What stands behind 0.
+#[tactic(auto, unfolding(rules::specs::Recorder::form_of, rules::specs::Lists::first, rules::specs::Recorder::answer_table))]
 fn done_shape(code: u8) -> Option<Shape>
     ensures { kinds_behind result ≡ kinds_in (form_of code 0) }
 {
@@ -154,6 +156,7 @@ fn done_shape(code: u8) -> Option<Shape>
 }
 
 // What stands behind a refusal's number.
+#[tactic(auto, unfolding(crate::specs::Refusals::carried_by, rules::specs::Lists::first, crate::specs::Refusals::carrying))]
 fn carried(number: u64) -> Shape
     ensures { kinds_of result ≡ carried_by number }
 {

@@ -2,7 +2,6 @@
 ghost use Rattle.std.specs.Prelude.{◌≡◌, cond, false, ◌||◌, List, ◌++◌, ℕ, ◌≤◌, ltb, length, drop, get_or};
 ghost use Rattle.refusals.specs.declared.Refusal.TheVariants.{NameTooLong, BadFrame};
 ghost use Rattle.rules.specs.AccountRules.{is_too_long};
-ghost use Rattle.rules.specs.Domain.{IsWord};
 ghost use Rattle.rules.specs.Frames.{reply_bytes, line_of_bytes};
 ghost use Rattle.rules.specs.Recorder.{fitting, line_in, record_answer};
 ghost use Rattle.answer_bytes.specs.Sizes.{longest_other_answer};
@@ -12,7 +11,7 @@ ghost use Rattle.recorder.specs.Shapes.{kinds_of};
 ghost use Rattle.recorder.specs.AnswerWords.{judged_as, head_of, tail_of, Writable};
 
 use crate::answer_table::{LAST_NUMBER, Shape, shape_of};
-use crate::MOST_WORDS;
+use crate::{Line, MOST_WORDS, Text};
 use answer_bytes::{
     LONGEST_OTHER_ANSWER, write_named, write_named_field, write_named_word, write_number,
     write_three_words, write_two_words, write_word,
@@ -151,21 +150,18 @@ fn write_judged(
     let mut head = [0u8; LONGEST_OTHER_ANSWER];
     let size = write_head(shape, number, words, part, &mut head);
     let start = tail_start(shape, part.len());
-    crate::put(true, &head[..size], &part[start..], output)
+    Line::put(&head[..size], &part[start..], output)
 }
 
-// The answer's number; each of the words is one of the machine.
-fn number_in(words: &[u64]) -> u64
-    requires { 1 ≤ length words.now }
-    ensures { (result ≡ get_or words.now 0 0) × ((i : ℕ) → IsWord (get_or words.now i 0)) }
-{
-    words[0]
-}
-
-pub fn write_answer(code: u8, words: &[u64; MOST_WORDS], part: &[u8], output: &mut [u8]) -> Result<usize, Refusal>
+pub fn write_answer(
+    code: u8,
+    words: &[u64; MOST_WORDS],
+    part: &[u8],
+    output: &mut [u8],
+) -> Result<usize, Refusal>
     ensures { Records (record_answer line_in code words.now part.now output.old) output.new result }
 {
-    let number = number_in(words);
+    let number = words[0];
     if LAST_NUMBER < number {
         return Err(Refusal::BadFrame);
     }

@@ -4,20 +4,20 @@ ghost use Rattle.std.specs.Prelude.{◌≡◌, ◌⊎◌, ℕ, ◌≤◌, ℤ};
 ghost use Rattle.rules.specs.Recorder.{bytes_in, line_in, record_operation};
 ghost use Rattle.recorder.specs.Recording.{Records, parts, RecordsOperation, word_behind};
 
+use crate::{Bytes, Line, Text};
 use answer_bytes::LONGEST_OTHER_ANSWER;
 use numbers::Microcents;
 use refusals::Refusal;
 
 // 01 to 04: ensure, top-up, limit and reserve.
-fn write_named(
-    as_line: bool,
+fn write_named<T: Text>(
     code: u8,
     amount: Microcents,
     name: &[u8],
     output: &mut [u8],
 ) -> Result<usize, Refusal>
     requires { (1 ≤ code) × (code ≤ 4) }
-    ensures { (number : ℕ) → RecordsOperation as_line code (parts number amount.0 name.now)
+    ensures { (number : ℕ) → RecordsOperation T.text code (parts number amount.0 name.now)
         output.old output.new result }
 {
     if rules::LONGEST_NAME < name.len() {
@@ -26,99 +26,97 @@ fn write_named(
     let mut head = [0u8; LONGEST_OTHER_ANSWER];
     let word = big_endian::word_of(amount);
     let size = answer_bytes::write_named_word(&mut head, code, names::name_of(name), word);
-    crate::put(as_line, &head[..size], &name[..0], output)
+    T::put(&head[..size], &name[..0], output)
 }
 
 // 05: commit.
-fn write_commit(
-    as_line: bool,
+fn write_commit<T: Text>(
     id: u64,
     amount: Microcents,
     part: &[u8],
     output: &mut [u8],
 ) -> Result<usize, Refusal>
-    ensures { RecordsOperation as_line 5 (parts id amount.0 part.now) output.old output.new result }
+    ensures { RecordsOperation T.text 5 (parts id amount.0 part.now) output.old output.new result }
 {
     let mut head = [0u8; LONGEST_OTHER_ANSWER];
     let word = big_endian::word_of(amount);
     let size = answer_bytes::write_two_words(&mut head, 5, id, word);
-    crate::put(as_line, &head[..size], &part[..0], output)
+    T::put(&head[..size], &part[..0], output)
 }
 
 // 06: release.
-fn write_release(as_line: bool, id: u64, part: &[u8], output: &mut [u8]) -> Result<usize, Refusal>
-    ensures { (amount : ℤ) → RecordsOperation as_line 6 (parts id amount part.now) output.old output.new result }
+fn write_release<T: Text>(id: u64, part: &[u8], output: &mut [u8]) -> Result<usize, Refusal>
+    ensures { (amount : ℤ) → RecordsOperation T.text 6 (parts id amount part.now) output.old output.new result }
 {
     let mut head = [0u8; LONGEST_OTHER_ANSWER];
     let size = answer_bytes::write_word(&mut head, 6, id);
-    crate::put(as_line, &head[..size], &part[..0], output)
+    T::put(&head[..size], &part[..0], output)
 }
 
 // 07, 0b and 0d: the ledger's snapshot, certificate and proof.
-fn write_alone(as_line: bool, code: u8, part: &[u8], output: &mut [u8]) -> Result<usize, Refusal>
+fn write_alone<T: Text>(code: u8, part: &[u8], output: &mut [u8]) -> Result<usize, Refusal>
     requires { (code ≡ 7) ⊎ (code ≡ 11) ⊎ (code ≡ 13) }
-    ensures { (number : ℕ) (amount : ℤ) → RecordsOperation as_line code (parts number amount part.now)
+    ensures { (number : ℕ) (amount : ℤ) → RecordsOperation T.text code (parts number amount part.now)
         output.old output.new result }
 {
     let mut head = [0u8; LONGEST_OTHER_ANSWER];
     let size = answer_bytes::write_number(&mut head, code);
-    crate::put(as_line, &head[..size], &part[..0], output)
+    T::put(&head[..size], &part[..0], output)
 }
 
 // 08, 09 and 0e: both restores, and the conservation status.
-fn write_snapshot(as_line: bool, code: u8, snapshot: &[u8], output: &mut [u8]) -> Result<usize, Refusal>
+fn write_snapshot<T: Text>(code: u8, snapshot: &[u8], output: &mut [u8]) -> Result<usize, Refusal>
     requires { (code ≡ 8) ⊎ (code ≡ 9) ⊎ (code ≡ 14) }
-    ensures { (number : ℕ) (amount : ℤ) → RecordsOperation as_line code (parts number amount snapshot.now)
+    ensures { (number : ℕ) (amount : ℤ) → RecordsOperation T.text code (parts number amount snapshot.now)
         output.old output.new result }
 {
     snapshot_reader::check(snapshot)?;
     let mut head = [0u8; LONGEST_OTHER_ANSWER];
     let size = answer_bytes::write_number(&mut head, code);
-    crate::put(as_line, &head[..size], snapshot, output)
+    T::put(&head[..size], snapshot, output)
 }
 
 // 0a and 0c: a migration behind its fence, and a certificate of a snapshot behind its since.
-fn write_word_and_snapshot(
-    as_line: bool,
+fn write_word_and_snapshot<T: Text>(
     code: u8,
     word: u64,
     snapshot: &[u8],
     output: &mut [u8],
 ) -> Result<usize, Refusal>
     requires { (code ≡ 10) ⊎ (code ≡ 12) }
-    ensures { (number : ℕ) (amount : ℤ) → word_behind code number amount ≡ word → RecordsOperation as_line code
+    ensures { (number : ℕ) (amount : ℤ) → word_behind code number amount ≡ word → RecordsOperation T.text code
         (parts number amount snapshot.now) output.old output.new result }
 {
     snapshot_reader::check(snapshot)?;
     let mut head = [0u8; LONGEST_OTHER_ANSWER];
     let size = answer_bytes::write_word(&mut head, code, word);
-    crate::put(as_line, &head[..size], snapshot, output)
+    T::put(&head[..size], snapshot, output)
 }
 
-fn write(
-    as_line: bool,
+fn write<T: Text>(
     code: u8,
     number: u64,
     amount: Microcents,
     part: &[u8],
     output: &mut [u8],
 ) -> Result<usize, Refusal>
-    ensures { RecordsOperation as_line code (parts number amount.0 part.now) output.old output.new result }
+    ensures { RecordsOperation T.text code (parts number amount.0 part.now) output.old output.new result }
 {
     match code {
-        1..=4 => write_named(as_line, code, amount, part, output),
-        5 => write_commit(as_line, number, amount, part, output),
-        6 => write_release(as_line, number, part, output),
-        7 | 11 | 13 => write_alone(as_line, code, part, output),
-        8 | 9 | 14 => write_snapshot(as_line, code, part, output),
-        10 => write_word_and_snapshot(as_line, code, number, part, output),
-        12 => write_word_and_snapshot(as_line, code, big_endian::word_of(amount), part, output),
+        1..=4 => write_named::<T>(code, amount, part, output),
+        5 => write_commit::<T>(number, amount, part, output),
+        6 => write_release::<T>(number, part, output),
+        7 | 11 | 13 => write_alone::<T>(code, part, output),
+        8 | 9 | 14 => write_snapshot::<T>(code, part, output),
+        10 => write_word_and_snapshot::<T>(code, number, part, output),
+        12 => write_word_and_snapshot::<T>(code, big_endian::word_of(amount), part, output),
         _ => Err(Refusal::BadFrame),
     }
 }
 
 // The operation's line, without a line feed, at the front of the output: 23 for a code that is none or a part that is no snapshot, 19 for a name of more than 24
 // bytes, in a snapshot too, and 22 where it does not fit; a refusal leaves the output as it is.
+#[tactic(auto, unfolding(rules::specs::Recorder::line_in))]
 pub fn write_operation(
     code: u8,
     number: u64,
@@ -128,7 +126,7 @@ pub fn write_operation(
 ) -> Result<usize, Refusal>
     ensures { Records (record_operation line_in code (parts number amount.0 part.now) output.old) output.new result }
 {
-    write(true, code, number, amount, part, output)
+    write::<Line>(code, number, amount, part, output)
 }
 
 // The same as bytes.
@@ -141,5 +139,5 @@ pub fn write_frame(
 ) -> Result<usize, Refusal>
     ensures { Records (record_operation bytes_in code (parts number amount.0 part.now) output.old) output.new result }
 {
-    write(false, code, number, amount, part, output)
+    write::<Bytes>(code, number, amount, part, output)
 }

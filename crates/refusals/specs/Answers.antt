@@ -8,12 +8,12 @@ use Rattle.numbers.specs.declared.Microcents.{Microcents}
 use Rattle.refusals.specs.declared.Refusal.{Refusal}
 use Rattle.refusals.specs.declared.Refusal.TheVariants as refusal
 
+-- the refusal of the rules that is told so: of reserve's and commit's overflow, which are told alike, reserve's
 abbrev pub refusal_of : Refusal → RulesRefusal
 refusal_of (refusal.NegativeAmount value) = rules.NegativeAmount value.0
 refusal_of refusal.InvalidAmount = rules.InvalidAmount
 refusal_of refusal.MissingTenant = rules.MissingTenant
-refusal_of (refusal.OverflowOfReserve reserved) = rules.OverflowOfReserve reserved.0
-refusal_of (refusal.OverflowOfCommit remaining) = rules.OverflowOfCommit remaining.0
+refusal_of (refusal.Overflow carried) = rules.OverflowOfReserve carried.0
 refusal_of refusal.OverflowOfTopUp = rules.OverflowOfTopUp
 refusal_of (refusal.ExposureLimitExceeded reserved limit) = rules.ExposureLimitExceeded reserved.0 limit.0
 refusal_of (refusal.Insufficient remaining required) = rules.Insufficient remaining.0 required.0

@@ -11,13 +11,13 @@ ghost use Rattle.refusals.specs.Answers.{refusal_of};
 use numbers::Microcents;
 pub use tenant_name::{TenantName, no_tenant};
 
+// 4 carries what is reserved after a reserve and what remains after a commit, and nothing after a top-up: so no two of these are told alike.
 #[derive(Clone, Copy)]
 pub enum Refusal {
     NegativeAmount(Microcents),
     InvalidAmount,
     MissingTenant,
-    OverflowOfReserve(Microcents),
-    OverflowOfCommit(Microcents),
+    Overflow(Microcents),
     OverflowOfTopUp,
     ExposureLimitExceeded(Microcents, Microcents),
     Insufficient(Microcents, Microcents),
@@ -50,9 +50,7 @@ impl Refusal {
             Refusal::NegativeAmount(_) => 1,
             Refusal::InvalidAmount => 2,
             Refusal::MissingTenant => 3,
-            Refusal::OverflowOfReserve(_)
-            | Refusal::OverflowOfCommit(_)
-            | Refusal::OverflowOfTopUp => 4,
+            Refusal::Overflow(_) | Refusal::OverflowOfTopUp => 4,
             Refusal::ExposureLimitExceeded(_, _) => 5,
             Refusal::Insufficient(_, _) => 6,
             Refusal::MissingReservation => 7,

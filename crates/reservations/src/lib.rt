@@ -96,7 +96,7 @@ pub fn reserve(room: &mut [u8], part: &[u8], cost: Microcents) -> Result<Granted
         return Err(Refusal::MissingTenant);
     }
     let Some(reserved) = numbers::plus(seat.reserved, asked) else {
-        return Err(Refusal::OverflowOfReserve(numbers::amount(seat.reserved)));
+        return Err(Refusal::Overflow(numbers::amount(seat.reserved)));
     };
     if moves::exceeds(seat.limit, reserved) {
         return Err(Refusal::ExposureLimitExceeded(
@@ -105,7 +105,7 @@ pub fn reserve(room: &mut [u8], part: &[u8], cost: Microcents) -> Result<Granted
         ));
     }
     let Some(id) = drawn.id else {
-        return Err(Refusal::OverflowOfReserve(numbers::amount(seat.reserved)));
+        return Err(Refusal::Overflow(numbers::amount(seat.reserved)));
     };
     let booked = match moves::reserve(seat, asked, reserved) {
         Ok(booked) => booked,
@@ -162,7 +162,7 @@ pub fn commit(room: &mut [u8], id: Identifier, actual: Microcents) -> Result<Com
         return Err(Refusal::MissingTenant);
     }
     let Some(committed) = numbers::plus(seat.committed, spent) else {
-        return Err(Refusal::OverflowOfCommit(numbers::amount(seat.remaining)));
+        return Err(Refusal::Overflow(numbers::amount(seat.remaining)));
     };
     let ended = moves::commit(seat, booked, spent, committed)?;
     end(room, j, due.owner, ended);

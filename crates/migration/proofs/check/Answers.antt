@@ -1,7 +1,5 @@
 -- `migration::check` meets its contract: each check in its order, and the validation between the fence and the room; each return is one law of Refusing.
 use mathlib.Core.Path.{◌≡◌, sym, ap, ◌∙◌}
-use mathlib.Core.Bool.{true, false}
-use Prim.Native.Nat.{◌≤◌}
 use native.Mathlib.Omega.{arith}
 use Rattle.std.specs.Prelude.{Err}
 use Rattle.rules.specs.RoomAndSoundLedger.{M, has_tag}

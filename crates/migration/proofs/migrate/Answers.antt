@@ -1,11 +1,11 @@
 -- `migration::migrate` meets its contract: the migrated snapshot stands at the output's front, as long as the one supplied (MigratedBytes).
-use mathlib.Core.Path.{◌≡◌, sym, ap, ◌∙◌}
+use mathlib.Core.Path.{◌≡◌, ap, ◌∙◌}
 use mathlib.Core.List.{[], ◌∷◌, ◌++◌}
 use native.Mathlib.Omega.{arith}
 use lib.ListN.{length, drop}
 use Rattle.std.specs.Prelude.{Err}
 use Rattle.rules.specs.AnswerNumbers.{SnapshotBytes, done}
-use Rattle.rules.specs.SnapshotsMigrationCertificates.{bytes_of, reply_or, tagged}
+use Rattle.rules.specs.SnapshotsMigrationCertificates.{bytes_of, reply_or}
 use Rattle.refusals.specs.Answers.{answer_of, carries_snapshot}
 use Rattle.numbers.proofs.Bytes.{all-bytes}
 use Rattle.snapshot_reader.proofs.Header.{is-long}

@@ -1,13 +1,13 @@
 -- `snapshot_writer::rows_size` meets its contract. The invariant: the size is that of the rows of the places passed, which no sum lets overflow: each is at
 -- most the longest.
-use mathlib.Core.Path.{◌≡◌, sym, ◌∙◌, ap}
+use mathlib.Core.Path.{sym, ◌∙◌, ap}
 use mathlib.Core.List.{flat_map}
-use Prim.Native.Nat.{◌+◌, ◌<◌}
+use Prim.Native.Nat.{◌+◌}
 use native.Mathlib.Omega.{arith}
 use lib.ListN.{length}
 use Rattle.rules.specs.SnapshotsMigrationCertificates.{row_bytes}
 use Rattle.snapshot_writer.specs.Output.{row_size}
-use Rattle.snapshot_writer.proofs.PlaceRows.{size_to, size_none, place-counted, place-in-room, size-next, size-most, used-most, rows_all}
+use Rattle.snapshot_writer.proofs.PlaceRows.{size_none, place-counted, place-in-room, size-next, size-most, used-most, rows_all}
 use Rattle.snapshot_writer.proofs.rows_size.Goals as goal
 
 pub loop-i-init : goal.loop-i-init

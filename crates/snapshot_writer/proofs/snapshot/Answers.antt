@@ -1,6 +1,6 @@
 -- `snapshot_writer::snapshot` meets its contract: the head is stamped, the output measured, rows and header written, in this order; each return is one law of
 -- Answering, and what was measured is what writing asks.
-use mathlib.Core.Path.{◌≡◌, refl, sym, ap, ◌∙◌}
+use mathlib.Core.Path.{◌≡◌, sym, ap, ◌∙◌}
 use mathlib.Core.Bool.{false}
 use native.Mathlib.Omega.{arith}
 use borrow.Author.Tests.{not-true, not-false}

@@ -1,25 +1,16 @@
 -- `snapshot_writer::write_row` meets its contract: the name fills the first half of the part and the amounts the other; together they spell the row.
-use mathlib.Core.Path.{◌≡◌, sym, ap₂, ◌∙◌}
+use mathlib.Core.Path.{◌≡◌, ap₂, ◌∙◌}
 use mathlib.Core.List.{◌++◌, append_assoc}
 use Prim.Native.Nat.{◌+◌}
 use native.Mathlib.Omega.{arith}
-use lib.ListN.{length, take}
+use lib.ListN.{length}
 use lib.Seq.{length-take-le}
 use Rattle.rules.specs.SnapshotsMigrationCertificates.{name_bytes, row_bytes}
 use Rattle.names.specs.Names.{spelled}
 use Rattle.records.specs.declared.Place.{Place}
 use Rattle.snapshot_writer.specs.Rows.{amounts_bytes, row_in_place}
 use Rattle.records.proofs.Rows.{two-halves}
-use Rattle.snapshot_writer.proofs.write_row.Lts as place
-use Rattle.snapshot_writer.proofs.write_row.Tie as tie
 use Rattle.snapshot_writer.proofs.write_row.Goals as goal
-
-abbrev After-write_name-arg-1 : Type 0
-After-write_name-arg-1 = place.After-write_name-arg tie.the-claims tie.handed_pre tie.handed_post
-
-named : (c : After-write_name-arg-1) → let a = c.args in length (take (1 + a.place.name.length) a.part.now) ≡ 1 + a.place.name.length
-named c =
-    length-take-le (1 + c.args.place.name.length) c.args.part.now (omega (arith, c.requires.0))
 
 row-bytes : (p : Place) → name_bytes (spelled p.name) ++ amounts_bytes p ≡ row_bytes (row_in_place p)
 unfolding row_bytes
@@ -30,13 +21,7 @@ returns c =
     let p = c.args.place in
     let name : _ ≡ name_bytes (spelled p.name) = c.write_name.ensures in
     let amounts : _ ≡ amounts_bytes p = c.write_amounts.ensures in
-    let size : length c.write_name.new.part ≡ 1 + p.name.length = c.write_name.auto.part ∙ named c.before.before.before.before.before.before.before.before in
+    let size : length c.write_name.new.part ≡ 1 + p.name.length = c.write_name.auto.part ∙ length-take-le (1 + p.name.length) c.args.part.now (omega (arith, c.requires.0)) in
     two-halves (1 + p.name.length) c.args.part.now c.write_name.new.part c.write_amounts.new.part size
     ∙ ap₂ ◌++◌ name amounts
     ∙ row-bytes p
-
-pub slice_bounds-write_name-end-2 : goal.slice_bounds-write_name-end-2
-slice_bounds-write_name-end-2 c = sym (named c)
-
-pub write_name-requires : goal.write_name-requires
-write_name-requires c = (named c, c.requires.1)

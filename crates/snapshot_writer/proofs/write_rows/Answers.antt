@@ -1,6 +1,6 @@
 -- `snapshot_writer::write_rows` meets its contract. The invariant: the rows of the places passed are written. What the requirement says of all rows bounds
 -- those passed (PlaceRows).
-use mathlib.Core.Path.{◌≡◌, sym, ◌∙◌, ap, subst}
+use mathlib.Core.Path.{sym, ◌∙◌, ap, subst}
 use mathlib.Core.List.{List, ◌++◌}
 use Prim.Native.Nat.{◌+◌}
 use native.Mathlib.Omega.{arith}
@@ -38,10 +38,10 @@ loop-i-preserved c =
     let i = c.loop-i.i in
     let next = rows_next room c.requires.0.ledger c.requires.0.is_room i (place-counted room c.load_sizes-sizes.ensures c.loop-i-test.true) in
     subst (λ (rs : List Row). WritesRows rs c.args.output.now c.append_account-extent.new.output c.append_account-extent.result)
-        (ap (λ p. rows_to room i ++ row_of_place p) c.load_place.ensures ∙ sym next)
-        (c.append_account-extent.ensures c.args.output.now (rows_to room i) c.loop-i.invariant)
+    (ap (λ p. rows_to room i ++ row_of_place p) c.load_place.ensures ∙ sym next)
+    (c.append_account-extent.ensures c.args.output.now (rows_to room i) c.loop-i.invariant)
 
 pub returns : goal.returns
 returns c L room =
     subst (λ (rs : List Row). WritesRows rs c.args.output.now c.loop-i.output c.loop-i.extent)
-        (rows_all c.args.room.now L room c.loop-i.i (omega (arith, ap (λ s. s.used) c.load_sizes-sizes.ensures))) c.loop-i.invariant
+    (rows_all c.args.room.now L room c.loop-i.i (omega (arith, ap (λ s. s.used) c.load_sizes-sizes.ensures))) c.loop-i.invariant

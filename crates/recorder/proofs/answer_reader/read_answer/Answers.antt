@@ -1,22 +1,14 @@
 -- `recorder::answer_reader::read_answer`: the lent bytes are too few, or the line is decoded into them, and then AnswerLine says what it comes to: less than a line, or what
 -- `read_answer_bytes` has read of them.
-use mathlib.Core.Path.{refl, sym}
 use native.Mathlib.Omega.{arith}
-use lib.Seq.{length-take-le}
 use Rattle.recorder.proofs.AnswerLine.{broken, decoded}
 use Rattle.recorder.proofs.answer_reader.read_answer.Goals as goal
-
-pub returns-then-bytes-line : goal.returns-then-bytes-line
-returns-then-bytes-line c = record { too_short = λ _. record { answer = refl; same_bytes = refl; same_words = refl }; long_enough = λ h. absurd (omega arith) }
 
 pub returns-then-size-line : goal.returns-then-size-line
 returns-then-size-line c =
     let a = c.args in
     let call = c.front_bytes-size in
     broken a.code a.line.now a.bytes.now _ (omega arith) call.ensures (omega arith) a.words.now
-
-pub slice_bounds-read_answer_bytes-end-2 : goal.slice_bounds-read_answer_bytes-end-2
-slice_bounds-read_answer_bytes-end-2 c = sym (length-take-le _ _ c.front_bytes-size.ensures.fits)
 
 pub returns : goal.returns
 returns c =

@@ -33,22 +33,22 @@ module _ (bs : List ℕ) where
 pub returns-then-bytes-ne-LONGEST_OTHER_ANSWER : goal.returns-then-bytes-ne-LONGEST_OTHER_ANSWER
 returns-then-bytes-ne-LONGEST_OTHER_ANSWER c = other-size c.args.bytes.now c.requires.0 kinds (tt, (tt, (tt, (tt, (tt, (tt, (tt, (tt, tt)))))))) c.requires.1 (omega arith)
 
-pub returns-then-fourth-gt-YES : goal.returns-then-fourth-gt-YES
-returns-then-fourth-gt-YES c =
-    let flag = c.byte_at-fourth.ensures in
+pub returns-then-balanced-gt-YES : goal.returns-then-balanced-gt-YES
+returns-then-balanced-gt-YES c =
+    let flag = c.byte_at-balanced.ensures in
     refuses c.args.bytes.now c.requires.0 kinds (tt, (tt, (tt, (tt, (tt, (tt, (tt, (tt, tt)))))))) c.requires.1 (first-flag c.args.bytes.now (omega arith))
 
-pub returns-then-seventh-gt-YES : goal.returns-then-seventh-gt-YES
-returns-then-seventh-gt-YES c =
-    let flag = c.byte_at-fourth.ensures in
-    let flag2 = c.byte_at-seventh.ensures in
+pub returns-then-representable-gt-YES : goal.returns-then-representable-gt-YES
+returns-then-representable-gt-YES c =
+    let flag = c.byte_at-balanced.ensures in
+    let flag2 = c.byte_at-representable.ensures in
     refuses c.args.bytes.now c.requires.0 kinds (tt, (tt, (tt, (tt, (tt, (tt, (tt, (tt, tt)))))))) c.requires.1 (second-flag c.args.bytes.now (omega arith) (omega arith))
 
 pub returns : goal.returns
 returns c =
     let bs = c.args.bytes.now in
-    let flag = c.byte_at-fourth.ensures in
-    let flag2 = c.byte_at-seventh.ensures in
+    let flag = c.byte_at-balanced.ensures in
+    let flag2 = c.byte_at-representable.ensures in
     carries bs c.requires.0 kinds (tt, (tt, (tt, (tt, (tt, (tt, (tt, (tt, tt)))))))) c.requires.1
     (alike c.word_at.ensures c.word_at-2.ensures c.word_at-3.ensures flag
     c.word_at-4.ensures c.word_at-5.ensures flag2 c.word_at-6.ensures

@@ -29,15 +29,15 @@ module _ (bs : List ℕ) where
 pub returns-then-bytes-ne-PROOF_SIZE : goal.returns-then-bytes-ne-PROOF_SIZE
 returns-then-bytes-ne-PROOF_SIZE c = other-size c.args.bytes.now c.requires.0 kinds (tt, (tt, (tt, (tt, (tt, (tt, tt)))))) c.requires.1 (omega arith)
 
-pub returns-then-sixth-gt-YES : goal.returns-then-sixth-gt-YES
-returns-then-sixth-gt-YES c =
-    let flag = c.byte_at-sixth.ensures in
+pub returns-then-proved-gt-YES : goal.returns-then-proved-gt-YES
+returns-then-proved-gt-YES c =
+    let flag = c.byte_at-proved.ensures in
     refuses c.args.bytes.now c.requires.0 kinds (tt, (tt, (tt, (tt, (tt, (tt, tt)))))) c.requires.1 (first-flag c.args.bytes.now (omega arith))
 
 pub returns : goal.returns
 returns c =
     let bs = c.args.bytes.now in
-    let flag = c.byte_at-sixth.ensures in
+    let flag = c.byte_at-proved.ensures in
     carries bs c.requires.0 kinds (tt, (tt, (tt, (tt, (tt, (tt, tt)))))) c.requires.1
     (alike c.word_at.ensures c.word_at-2.ensures c.word_at-3.ensures c.word_at-4.ensures c.word_at-5.ensures flag refl refl
     ∙ sym (fit bs (omega arith) (omega arith)))

@@ -1,37 +1,20 @@
 -- `recorder::operations::write_release`: the code and the id are the whole frame (`release-frame`).
-use mathlib.Core.Path.{◌≡◌, refl, sym, ◌∙◌}
+use mathlib.Core.Path.{refl, sym, ◌∙◌}
 use mathlib.Core.List.{[], ◌∷◌, append-nil}
-use native.Mathlib.Omega.{arith}
-use borrow.Author.Rules.{rules}
-use lib.ListN.{length}
 use Rattle.rules.specs.AnswerNumbers.{Identifier}
-use Rattle.answer_bytes.specs.Sizes.{longest_other_answer}
 use Rattle.recorder.specs.Recording.{parts}
 use Rattle.recorder.proofs.OperationFrames.{head-is, head-within, head-size, one_value, written, release-frame}
-use Rattle.recorder.proofs.operations.write_release.Lts as place
-use Rattle.recorder.proofs.operations.write_release.Tie as tie
 use Rattle.recorder.proofs.operations.write_release.Goals as goal
 
-abbrev After-head-2-1 : Type 0
-After-head-2-1 = place.After-head2 tie.the-claims tie.handed_pre tie.handed_post
-
-held : (c : After-head-2-1) → length c.write_word-size.new.output ≡ longest_other_answer
-held c = search rules
-
-pub put-requires : goal.put-requires
-put-requires c =
-    let head = c.write_word-size.ensures (Identifier _) refl in
-    omega (arith, head-size head, head-within head, held c.before.before.before)
-
-pub returns : goal.returns
-returns c amount =
-    let args = c.args in
-    let p = parts args.id amount args.part.now in
-    written args.as_line 6 p args.output.now _ _ (Identifier args.id ∷ []) _ [] (release-frame p) refl
-    (head-is (c.write_word-size.ensures (Identifier _) refl)) (one_value (Identifier args.id) [] ∙ append-nil _) c.put.ensures
-
 pub slice_bounds-head-end : goal.slice_bounds-head-end
-slice_bounds-head-end c = head-within (c.write_word-size.ensures (Identifier _) refl)
+slice_bounds-head-end g c = head-within (c.write_word-size.ensures (Identifier _) refl)
 
 pub slice_bounds-put-end : goal.slice_bounds-put-end
-slice_bounds-put-end c = sym (head-size (c.write_word-size.ensures (Identifier _) refl))
+slice_bounds-put-end g c = sym (head-size (c.write_word-size.ensures (Identifier _) refl))
+
+pub returns : goal.returns
+returns g c amount =
+    let args = c.args in
+    let p = parts args.id amount args.part.now in
+    written g.T.Text.text 6 p args.output.now _ _ (Identifier args.id ∷ []) _ [] (release-frame p) refl
+    (head-is (c.write_word-size.ensures (Identifier _) refl)) (one_value (Identifier args.id) [] ∙ append-nil _) c.put.ensures

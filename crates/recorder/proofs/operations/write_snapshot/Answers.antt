@@ -1,61 +1,38 @@
 -- `recorder::operations::write_snapshot`: the snapshot is judged once (`says`) and stands behind the code as it is (`snapshot-frame`).
 use mathlib.Core.Path.{◌≡◌, sym}
 use mathlib.Core.List.{[], flat_map}
-use mathlib.Core.Option.{none, some}
+use mathlib.Core.Option.{some}
 use native.Mathlib.Omega.{arith}
-use Rattle.rules.specs.Lists.{All}
-use Rattle.rules.specs.RoomAndSoundLedger.{IsByte}
+use borrow.Author.Rules.{rules}
+use Rattle.std.specs.Prelude.{Err}
 use Rattle.numbers.proofs.Bytes.{all-bytes}
-use Rattle.snapshot_reader.specs.declared.Checked.{Checked}
-use Rattle.snapshot_reader.specs.declared.Checked.TheVariants as checked
-use Rattle.snapshot_reader.proofs.Checking.{Says, says}
+use Rattle.snapshot_reader.specs.Standing.{ShortNames}
+use Rattle.snapshot_reader.proofs.Checking.{says}
 use Rattle.recorder.specs.Recording.{parts}
-use Rattle.recorder.proofs.OperationFrames.{head-is, head-within, head-size, code-size, written, too_long, no-operation, snapshot-frame, snapshot-stands}
-use Rattle.recorder.proofs.operations.write_snapshot.Lts as place
-use Rattle.recorder.proofs.operations.write_snapshot.Tie as tie
+use Rattle.recorder.proofs.OperationFrames.{head-is, head-size, code-size, written, refused, snapshot-frame, snapshot-stands}
 use Rattle.recorder.proofs.operations.write_snapshot.Goals as goal
 
-abbrev After-check-checked : Type 0
-After-check-checked = place.After-check tie.the-claims tie.handed_pre tie.handed_post
-
-answered : (c : After-check-checked) (answer : Checked) → c.check-checked.result ≡ answer → Says c.args.snapshot.now answer
-answered c answer told = says c.args.snapshot.now c.check-checked.ensures told
-
-are-bytes : (c : After-check-checked) → All IsByte c.args.snapshot.now
-are-bytes c = all-bytes c.args.snapshot.now c.shared_slice_known-1.given
+pub returns-in_err-check : goal.returns-in_err-check
+returns-in_err-check g c number amount =
+    let args = c.args in
+    let p = parts number amount args.snapshot.now in
+    let returned : c.from_residual.result ≡ Err c.in_err-check.field-0.0 = search rules in
+    refused g.T.Text.text args.code p args.output.now [] (snapshot-frame args.code c.requires p) c.check.ensures c.in_err-check.was returned
 
 pub put-requires : goal.put-requires
-put-requires c =
-    let args = c.args in
+put-requires g c =
+    let part = c.args.snapshot.now in
     let head = c.write_number-size.ensures in
-    let (_, size) = snapshot-stands _ (are-bytes c.before.before.before.before.before.before.before) (answered c.before.before.before.before.before.before.before checked.Passes c.in-Passes.is) in
-    omega (arith, head-size head, head.size, code-size args.code, size)
+    let (_, size) = snapshot-stands part (all-bytes part c.type_inv.snapshot) (says part c.check.ensures c.in_ok-check.was) in
+    omega (arith, head-size head, head.size, code-size c.args.code, size)
 
-pub returns-in-BadFrame : goal.returns-in-BadFrame
-returns-in-BadFrame c number amount =
-    let args = c.args in
-    let p = parts number amount args.snapshot.now in
-    no-operation args.as_line args.code p args.output.now (snapshot-frame args.code c.requires p none (answered c.before.before checked.BadFrame c.in-BadFrame.is))
-
-pub returns-in-NameTooLong : goal.returns-in-NameTooLong
-returns-in-NameTooLong c number amount =
-    let args = c.args in
-    let p = parts number amount args.snapshot.now in
-    let long = answered c.before.before checked.NameTooLong c.in-NameTooLong.is in
-    too_long args.as_line args.code p args.output.now _ _ (snapshot-frame args.code c.requires p (some long.snapshot) long.is_read) long.long
-
-pub returns-in-Passes : goal.returns-in-Passes
+pub returns : goal.returns
 unfolding flat_map
-returns-in-Passes c number amount =
+returns g c number amount =
     let args = c.args in
-    let p = parts number amount args.snapshot.now in
-    let short = answered c.before.before.before.before.before.before.before.before.before.before checked.Passes c.in-Passes.is in
-    let (stands, _) = snapshot-stands _ (are-bytes c.before.before.before.before.before.before.before.before.before.before) short in
-    written args.as_line args.code p args.output.now _ _ [] _ args.snapshot.now (snapshot-frame args.code c.requires p (some short.snapshot) short.is_read) short.short
+    let part = args.snapshot.now in
+    let p = parts number amount part in
+    let short : ShortNames part = says part c.check.ensures c.in_ok-check.was in
+    let (stands, _) = snapshot-stands part (all-bytes part c.type_inv.snapshot) short in
+    written g.T.Text.text args.code p args.output.now _ _ [] _ part (snapshot-frame args.code c.requires p (some short.snapshot) short.is_read) short.short
     (head-is c.write_number-size.ensures) (sym stands) c.put.ensures
-
-pub slice_bounds-head-end : goal.slice_bounds-head-end
-slice_bounds-head-end c = head-within c.write_number-size.ensures
-
-pub slice_bounds-put-end : goal.slice_bounds-put-end
-slice_bounds-put-end c = sym (head-size c.write_number-size.ensures)

@@ -1,0 +1,6 @@
+-- `any_memory_accounts::limit` meets its contract: of a sound room `accounts` promises the rest (soundness, Checked).
+use Rattle.soundness.proofs.Checked.{answered}
+use Rattle.any_memory_accounts.proofs.limit.Goals as goal
+
+pub returns : goal.returns
+returns c = answered _ _ c.in_ok-expect_sound.ensures _ _ c.limit.ensures
