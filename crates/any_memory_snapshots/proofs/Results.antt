@@ -1,7 +1,7 @@
 -- What a result of the eight functions says is fixed by its answer: what is done is read back from it, value by value, and a refusal by its number and by what it carries. The size of a
 -- snapshot takes what the contract says beside the answer, that it lies within the output.
 use mathlib.Core.Path.{◌≡◌, refl, sym, ap, ◌∙◌}
-use mathlib.Core.List.{List, [], ◌∷◌}
+use mathlib.Core.List.{List}
 use Prim.Native.Nat.{ℕ, ◌<◌, ◌≤◌}
 use native.Mathlib.Omega.{arith}
 use lib.ListN.{length, drop, take, length-append, length-drop}
