@@ -1,5 +1,5 @@
+pub mod QuietAnswers
 pub mod HandedOver
 pub mod RoomSize
 pub mod SameAnswers
 pub mod SameReads
-pub mod RecorderCalls

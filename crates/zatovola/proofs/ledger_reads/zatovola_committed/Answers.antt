@@ -1,6 +1,12 @@
--- `zatovola::zatovola_committed`: what the read has promised of its answer holds of the number and the place (`handed`).
+-- `zatovola::zatovola_committed`: what the read promises of its answer holds of the number and the place (`handed`), since its refusals carry nothing.
+use Rattle.rules.specs.AnswerNumbers.{Amount}
+use Rattle.rules.specs.AccountRules.{operate, read_committed}
 use Rattle.zatovola.proofs.HandedOver.{handed}
+use Rattle.zatovola.proofs.QuietAnswers.{quiet-committed}
 use Rattle.zatovola.proofs.ledger_reads.zatovola_committed.Goals as goal
 
 pub returns : goal.returns
-returns c = handed c.committed-reading.ensures c.hand_reading.ensures
+returns c =
+    let a = c.args in
+    let name = a.name.now in
+    handed Amount a.value.now (λ L. (operate L (read_committed name)).reply) (quiet-committed name) a.room.now c.microcents.result _ _ (rw c.microcents.ensures c.committed.ensures) c.hand_over.ensures

@@ -1,6 +1,11 @@
--- `zatovola::zatovola_committed_since`: what the read has promised of its answer holds of the number and the place (`handed`).
+-- `zatovola::zatovola_committed_since`: what the read promises of its answer holds of the number and the place (`handed`), since its refusals carry nothing.
+use Rattle.rules.specs.AnswerNumbers.{Amount}
+use Rattle.rules.specs.AccountRules.{read_ledger, read_committed_since}
 use Rattle.zatovola.proofs.HandedOver.{handed}
+use Rattle.zatovola.proofs.QuietAnswers.{quiet-ledger}
 use Rattle.zatovola.proofs.ledger_reads.zatovola_committed_since.Goals as goal
 
 pub returns : goal.returns
-returns c = handed c.committed_since-since.ensures c.hand_since.ensures
+returns c =
+    let a = c.args in
+    handed Amount a.value.now (λ L. read_ledger L read_committed_since) (λ L. quiet-ledger L read_committed_since) a.room.now c.microcents.result _ _ (rw c.microcents.ensures c.committed_since.ensures) c.hand_over.ensures

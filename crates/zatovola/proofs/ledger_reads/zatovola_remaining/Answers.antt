@@ -1,6 +1,12 @@
--- `zatovola::zatovola_remaining`: what the read has promised of its answer holds of the number and the place (`handed`).
+-- `zatovola::zatovola_remaining`: what the read promises of its answer holds of the number and the place (`handed`), since its refusals carry nothing.
+use Rattle.rules.specs.AnswerNumbers.{Amount}
+use Rattle.rules.specs.AccountRules.{operate, read_remaining}
 use Rattle.zatovola.proofs.HandedOver.{handed}
+use Rattle.zatovola.proofs.QuietAnswers.{quiet-remaining}
 use Rattle.zatovola.proofs.ledger_reads.zatovola_remaining.Goals as goal
 
 pub returns : goal.returns
-returns c = handed c.remaining-reading.ensures c.hand_reading.ensures
+returns c =
+    let a = c.args in
+    let name = a.name.now in
+    handed Amount a.value.now (λ L. (operate L (read_remaining name)).reply) (quiet-remaining name) a.room.now c.microcents.result _ _ (rw c.microcents.ensures c.remaining.ensures) c.hand_over.ensures
