@@ -18,8 +18,7 @@ use Rattle.records.specs.Rows.{row, put}
 use Rattle.records.proofs.Rows.{two-halves}
 use Rattle.frames.specs.Answering.{IsLent}
 use Rattle.lines.specs.Batching.{line_room, IsLine, FirstLine, with_feeds, AnswersLine, HadRoom, NextTooLong, PromisesLine, PromisesNext, Batches}
-use Rattle.lines.specs.declared.LineAnswer.TheVariants as answered
-use Rattle.lines.specs.declared.Next.TheVariants as next
+use Rattle.std.specs.Prelude.{Some, None}
 use Rattle.lines.proofs.LineFound.{feed-behind}
 use Rattle.lines.proofs.StaysKnown.{unsound-after}
 
@@ -89,7 +88,7 @@ part_left {l} {output₀ = output₀} {output = output} {written = written} u =
 
 pub turn : {l : Lent} {input before room output₀ output : List ℕ} {used written : ℕ} (room-after part-after : List ℕ) (end size : ℕ)
     → Underway l input before room output₀ output used written → FirstLine (drop used input) end
-    → PromisesLine (operation_of_line (take end (drop used input))) room room-after (part_from written output) part-after (answered.Written size)
+    → PromisesLine (operation_of_line (take end (drop used input))) room room-after (part_from written output) part-after (Some size)
     → Underway l input before room-after output₀ (put written (length output - written) output part-after) (used + (end + 1)) (written + size)
 unfolding answer_to_line
 turn {l} {input} {before} {room} {output₀} {output} {used} {written} room-after part-after end size u f promise =
@@ -146,7 +145,7 @@ at-the-end {input = input} u h = stop u (inl (subst IsLine (sym (drop_of_length-
 
 pub stopped : {l : Lent} {input before room output₀ output : List ℕ} {used written : ℕ} (room-after part-after : List ℕ)
     → Underway l input before room output₀ output used written → length output ≡ length output₀
-    → PromisesNext (drop used input) room room-after (part_from written output) part-after next.Stopped
+    → PromisesNext (drop used input) room room-after (part_from written output) part-after None
     → Batches l input before room-after output₀ (put written (length output - written) output part-after) (record { used = used; written = written })
 stopped {l} {input} {before} {room} {output₀} {output} {used} {written} room-after part-after u same promise =
     let (room-same, part-same, why) = promise (lent_after l u.lines) u.lent in

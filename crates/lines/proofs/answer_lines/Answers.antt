@@ -9,9 +9,8 @@ use Rattle.rules.specs.Frames.{operation_of_line}
 use Rattle.records.specs.Rows.{put}
 use Rattle.records.proofs.Rows.{put-length}
 use Rattle.lines.specs.Batching.{FirstLine, PromisesLine, NextFound, NextAnswered, PromisesNext}
-use Rattle.lines.specs.declared.LineAnswer.TheVariants as answered
-use Rattle.lines.specs.declared.Next.{Next}
-use Rattle.lines.specs.declared.Next.TheVariants as next
+use Rattle.std.specs.Prelude.{Option as Found, Some, None}
+use Rattle.lines.specs.declared.Answered.{Answered}
 use Rattle.lines.proofs.AnswerLines.{some-lent}
 use Rattle.lines.proofs.StaysKnown.{stays-known}
 use Rattle.lines.proofs.Stretch.{begun, part_from, part_length, rest-is, written-within, turn, stopped, at-the-end}
@@ -28,8 +27,8 @@ At-loop-used = place.At-loop tie.the-claims tie.handed_pre tie.handed_post goal.
 abbrev After-answer_next : Type 0
 After-answer_next = place.After-answer_next tie.the-claims tie.handed_pre tie.handed_post goal.the-invariant-loop-used goal.the-decreases-loop-used tie.handed_clauses
 
-abbrev In-Answered : Type 0
-In-Answered = place.Past-After-known_told tie.the-claims tie.handed_pre tie.handed_post goal.the-invariant-loop-used goal.the-decreases-loop-used tie.handed_clauses
+abbrev In-Some : Type 0
+In-Some = place.Past-After-known_told tie.the-claims tie.handed_pre tie.handed_post goal.the-invariant-loop-used goal.the-decreases-loop-used tie.handed_clauses
 
 abbrev In_default : Type 0
 In_default = place.Past-After-enum_told tie.the-claims tie.handed_pre tie.handed_post goal.the-invariant-loop-used goal.the-decreases-loop-used tie.handed_clauses
@@ -66,7 +65,7 @@ module _ (c : After-answer_next) where
   part-kept : length part-after ≡ length part
   part-kept = omega (arith, c.answer_next.auto)
 
-  module _ (r : Next) (is : c.answer_next.result ≡ r) where
+  module _ (r : Found Answered) (is : c.answer_next.result ≡ r) where
     found : NextFound rest r
     found = subst (λ input. NextFound input r) (rest-is turn-of.loop-used.used (entry turn-of).args.input.now) (subst (NextFound _) is c.answer_next.ensures.found)
 
@@ -81,25 +80,25 @@ asked c = c.before.before.before.before.before.before.before
 pub returns-in_default : goal.returns-in_default
 returns-in_default c =
     let a = asked c.before in
-    let o = (turn-of a).loop-used in record { batches = λ l is. stopped (after a) (part-after a) (o.invariant.6 l is) o.invariant.2 (promise a next.Stopped c.in_default.is); within = passed (turn-of a) }
+    let o = (turn-of a).loop-used in record { batches = λ l is. stopped (after a) (part-after a) (o.invariant.6 l is) o.invariant.2 (promise a None c.in_default.is); within = passed (turn-of a) }
 
 -- ── answered ───────────────────────────────────────────────────────────────────────────────────
 
-module _ (c : In-Answered) where
+module _ (c : In-Some) where
   abbrev answer : After-answer_next
   answer = c.before.before.before.before.before.before.before
 
   abbrev end : ℕ
-  end = c.in-Answered.end
+  end = c.in-Some.answered.end
 
   abbrev size : ℕ
-  size = c.in-Answered.size
+  size = c.in-Some.answered.size
 
   first : FirstLine (rest answer) end
-  first = found answer (next.Answered end size) c.in-Answered.is
+  first = found answer (Some (record { end = end; size = size })) c.in-Some.is
 
-  promised : PromisesLine (operation_of_line (take end (rest answer))) (turn-of answer).loop-used.room (after answer) (part answer) (part-after answer) (answered.Written size)
-  promised = promise answer (next.Answered end size) c.in-Answered.is
+  promised : PromisesLine (operation_of_line (take end (rest answer))) (turn-of answer).loop-used.room (after answer) (part answer) (part-after answer) (Some size)
+  promised = promise answer (Some (record { end = end; size = size })) c.in-Some.is
 
   used-within : (turn-of answer).loop-used.used + (end + 1) ≤ length (entry (turn-of answer)).args.input.now
   used-within = let o = (turn-of answer).loop-used in omega (arith, first.inside, length-drop o.used (entry (turn-of answer)).args.input.now, o.invariant.0)
