@@ -2,10 +2,11 @@
 -- too, two results of one answer are the same.
 use mathlib.Core.Path.{◌≡◌, refl, sym, ap, ◌∙◌}
 use mathlib.Core.HLevel.{is_prop→PathP}
-use mathlib.Core.Bool.{Bool}
+use mathlib.Core.Bool.{Bool, false, cond}
 use mathlib.Core.List.{List, [], ◌∷◌}
-use Prim.Native.Nat.{ℕ, ◌<◌}
+use Prim.Native.Nat.{ℕ}
 use native.Mathlib.Omega.{arith}
+use lib.Dec.{eqb}
 use lib.ListN.{get_or, take, length-take}
 use lib.Seq.{take_all, length-take-le}
 use Rattle.std.specs.Prelude.{Result, Ok, Err}
@@ -20,7 +21,7 @@ use Rattle.names.proofs.Storing.{stored-is-stored, stored-spelled}
 use Rattle.refusals.specs.declared.tenant_name.TenantName.{TenantName}
 use Rattle.refusals.specs.declared.Refusal.{Refusal}
 use Rattle.refusals.specs.declared.Refusal.TheVariants as refusal
-use Rattle.refusals.specs.Answers.{refusal_of, answer_of}
+use Rattle.refusals.specs.Answers.{refusal_of, answer_of, carries_nothing, carries_amount, carries_count, carries_version}
 
 -- ── what an answer carries ─────────────────────────────────────────────────────────────────────
 
@@ -142,23 +143,40 @@ same-refusal = one-result (λ (e : Refusal). reply_of (refusal_of e)) refusal-re
 -- ── a result ───────────────────────────────────────────────────────────────────────────────────
 
 -- no refusal has the number of done
-refused-above : (e : RulesRefusal) → 0 < (reply_of e).number
-refused-above e = grind arith
+refused-number : (e : RulesRefusal) → eqb (reply_of e).number 0 ≡ false
+refused-number e = grind arith
 
-refused-or-done : (e : RulesRefusal) (vs : List Value) → reply_of e ≡ done vs → ⊥
-refused-or-done e vs same = omega (arith, refused-above e, ap (λ (r : Reply). r.number) same)
+-- what is done is read by what it carries, and the rest is a refusal
+pub answer_back : {A : Type 0} → (Reply → A) → Reply → Result A Refusal
+answer_back back r = cond (eqb r.number 0) (Ok (back r)) (Err (refusal_back r))
 
--- what is handed over may be carried in two ways, as a snapshot's size is by two outputs
-pub same-result-by : {A : Type 0} (carried other : A → List Value) (r s : Result A Refusal)
-    → ((x y : A) → r ≡ Ok x → s ≡ Ok y → done (carried x) ≡ done (other y) → x ≡ y) → answer_of carried r ≡ answer_of other s → r ≡ s
-same-result-by carried other (Ok x) (Ok y) one e = ap Ok (one x y refl refl e)
-same-result-by carried other (Ok x) (Err d) one e = absurd (refused-or-done (refusal_of d) (carried x) (sym e))
-same-result-by carried other (Err d) (Ok y) one e = absurd (refused-or-done (refusal_of d) (other y) e)
-same-result-by carried other (Err d) (Err e) one q = ap Err (same-refusal d e q)
+pub answer-back : {A : Type 0} (carried : A → List Value) (back : Reply → A) (r : Result A Refusal)
+    → ((x : A) → r ≡ Ok x → back (done (carried x)) ≡ x) → answer_back back (answer_of carried r) ≡ r
+unfolding answer_back
+answer-back carried back (Ok x) done-back = ap Ok (done-back x refl)
+answer-back carried back (Err e) done-back = rw (refused-number (refusal_of e)) (ap Err (refusal-back e))
 
 -- what is handed over can be read back from its answer
 abbrev pub HandsOver : {A : Type 0} → (A → List Value) → Type 0
 HandsOver carried = ReadBack (λ x. done (carried x))
 
-pub same-result : {A : Type 0} (carried : A → List Value) → HandsOver carried → (r s : Result A Refusal) → answer_of carried r ≡ answer_of carried s → r ≡ s
-same-result carried read r s = same-result-by carried carried r s (λ x y _ _. one-result (λ x. done (carried x)) read x y)
+module _ {A : Type 0} (carried : A → List Value) (read : HandsOver carried) where
+  pub answer-read : ReadBack (answer_of {A = A} carried)
+  answer-read = record { back = answer_back read.back; is = λ r. answer-back carried read.back r (λ x _. read.is x) }
+
+  pub same-result : (r s : Result A Refusal) → answer_of carried r ≡ answer_of carried s → r ≡ s
+  same-result = one-result (answer_of carried) answer-read
+
+-- ── what is handed over by itself ──────────────────────────────────────────────────────────────
+
+pub nothing-read : HandsOver {A = Unit {0}} carries_nothing
+nothing-read = record { back = λ _. tt; is = λ _. refl }
+
+pub amount-read : HandsOver carries_amount
+amount-read = record { back = λ r. amount_at r 0; is = λ _. refl }
+
+pub count-read : HandsOver carries_count
+count-read = record { back = λ r. number_at r 0; is = λ _. refl }
+
+pub version-read : HandsOver carries_version
+version-read = record { back = λ r. number_at r 0; is = λ _. refl }
