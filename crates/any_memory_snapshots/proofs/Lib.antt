@@ -1,4 +1,2 @@
-pub mod Supplied
-pub mod FirstChecked
 pub mod Results
 pub mod SameBytes
