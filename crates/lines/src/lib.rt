@@ -101,12 +101,10 @@ pub fn line_end(input: &[u8], from: usize) -> Option<usize>
     requires { from ≤ length input.now }
     ensures { FirstFeed input.now from result }
 {
-    let mut at = from;
-    while at < input.len() {
+    for at in from..input.len() {
         if input[at] == LINE_FEED {
             return Some(at);
         }
-        at += 1;
     }
     None
 }
