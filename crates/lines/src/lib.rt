@@ -157,13 +157,8 @@ fn answer_lines(
     let mut used = 0;
     let mut written = 0;
     while used < input.len() {
-        let Some(answered) = answer_next(
-            room,
-            known,
-            &input[used..],
-            work,
-            &mut output[written..],
-        ) else {
+        let Some(answered) = answer_next(room, known, &input[used..], work, &mut output[written..])
+        else {
             return Progress { used, written };
         };
         used += answered.end + 1;
