@@ -5,7 +5,8 @@ use Prim.Native.Nat.{ℕ}
 use Rattle.rules.specs.RoomAndSoundLedger.{Ledger}
 use Rattle.rules.specs.AnswerNumbers.{Reply}
 use Rattle.rules.proofs.Values.{answers-told}
-use Rattle.room.proofs.SameAnswers.{by-room, ReadBack, one-result}
+use Rattle.refusals.proofs.SameResult.{ReadBack, one-result}
+use Rattle.room.proofs.SameAnswers.{by-room}
 use Rattle.any_memory_accounts.specs.Tells.{Tells}
 
 module _ {R : Type 0} (reply : R → Reply) (read : ReadBack reply) where

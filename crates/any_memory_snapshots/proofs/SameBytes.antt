@@ -1,5 +1,5 @@
--- What the contracts leave open: nothing. For any memory, any bytes and any output, what the result says, every byte of the memory and every byte of the output
--- are fixed: by whether the bytes are a snapshot, by the soundness of the memory, and by the answer, from which the result can be read back (Results).
+-- What the contracts leave open: nothing. For any memory, any bytes and any output, the result, every byte of the memory and every byte of the output are
+-- fixed: by whether the bytes are a snapshot, by the soundness of the memory, and by the answer, from which the result can be read back (Results).
 use mathlib.Core.Path.{◌≡◌, sym, ◌∙◌, ap}
 use mathlib.Core.List.{List}
 use mathlib.Core.Option.{Option, none, some}
@@ -8,30 +8,23 @@ use lib.ListN.{length}
 use Rattle.std.specs.Prelude.{Result, IfOk}
 use Rattle.rules.specs.Lists.{All}
 use Rattle.rules.specs.RoomAndSoundLedger.{Ledger, IsByte}
-use Rattle.rules.specs.AnswerNumbers.{Value, Reply, Outcome}
+use Rattle.rules.specs.AnswerNumbers.{Reply, Outcome}
 use Rattle.rules.specs.SnapshotsMigrationCertificates.{Snapshot, snapshot, output_after}
 use Rattle.refusals.specs.declared.Refusal.{Refusal}
 use Rattle.refusals.specs.Answers.{answer_of, carries_nothing, carries_snapshot}
+use Rattle.refusals.proofs.SameResult.{one-result, nothing-read, same-result}
 use Rattle.room.specs.Room.{Answers}
 use Rattle.room.proofs.SameAnswers.{same_answer}
+use Rattle.certificates.specs.declared.Certificate.{Certificate}
+use Rattle.certificates.specs.Certified.{carries_certificate}
 use Rattle.any_memory_snapshots.specs.Supplied.{AnswersSnapshot}
-use Rattle.any_memory_snapshots.proofs.Results.{HandsOver, nothing-read, SaysSame, says-same, same-size}
+use Rattle.any_memory_snapshots.proofs.Results.{certified-read, sized_in, size-read}
+
+-- of `certificate` and `conservation_proof`, which take no bytes and no output, `same-result` (crate room) says it, with `certified-read` and `proved-read`
 
 -- of the output: the answer and what stood there fix it
 pub same-output : (r s : Reply) (before after others : List ℕ) → after ≡ output_after r before → others ≡ output_after s before → r ≡ s → after ≡ others
 same-output r s before after others one two same = one ∙ ap (λ t. output_after t before) same ∙ sym two
-
-module _ {A : Type 0} (carried : A → List Value) (read : HandsOver carried) (r s : Result A Refusal) where
-  -- of `certificate` and `conservation_proof`, which take no bytes and no output
-  pub same-certified : (f : Ledger → Outcome) (before after others : List ℕ) → All IsByte after → All IsByte others
-      → Answers f before (answer_of carried r) after → Answers f before (answer_of carried s) others → SaysSame r s × (after ≡ others)
-  same-certified f before after others bytes other-bytes one two =
-      let same = same_answer before f (answer_of carried r) after bytes one (answer_of carried s) others other-bytes two in
-      (says-same carried read r s same.0, same.1)
-
-  -- of `status` and `certificate_of_snapshot`, which take no ledger
-  pub same-supplied : (answer : Reply) → answer_of carried r ≡ answer → answer_of carried s ≡ answer → SaysSame r s
-  same-supplied answer one two = says-same carried read r s (one ∙ sym two)
 
 module _ (f : Ledger → Snapshot → Outcome) (before after others : List ℕ) (bytes : All IsByte after) (other-bytes : All IsByte others) where
   same-reply : (r s : Reply) (o : Option Snapshot) → AnswersSnapshot f o before r after → AnswersSnapshot f o before s others → (r ≡ s) × (after ≡ others)
@@ -39,33 +32,43 @@ module _ (f : Ledger → Snapshot → Outcome) (before after others : List ℕ) 
   same-reply r s (some supplied) one two = same_answer before (λ L. f L supplied) r after bytes one s others other-bytes two
 
   -- of `restore` and `recovery_restore`
-  pub same-restore : (r s : Result (Unit {0}) Refusal) (o : Option Snapshot) → AnswersSnapshot f o before (answer_of carries_nothing r) after
-      → AnswersSnapshot f o before (answer_of carries_nothing s) others → SaysSame r s × (after ≡ others)
+  pub same-restore : (r s : Result (Unit {0}) Refusal) (o : Option Snapshot)
+      → AnswersSnapshot f o before (answer_of carries_nothing r) after → AnswersSnapshot f o before (answer_of carries_nothing s) others → (r ≡ s) × (after ≡ others)
   same-restore r s o one two =
       let same = same-reply (answer_of carries_nothing r) (answer_of carries_nothing s) o one two in
-      (says-same carries_nothing nothing-read r s same.0, same.1)
+      (same-result carries_nothing nothing-read r s same.0, same.1)
 
--- of the two that write a snapshot to an output
+-- of `status`
+pub same-status : (answer : Reply) (r s : Result (Unit {0}) Refusal) → answer_of carries_nothing r ≡ answer → answer_of carries_nothing s ≡ answer → r ≡ s
+same-status answer r s one two = same-result carries_nothing nothing-read r s (one ∙ sym two)
+
+-- of `certificate_of_snapshot`
+pub same-certificate : (answer : Reply) (r s : Result Certificate Refusal) → answer_of carries_certificate r ≡ answer → answer_of carries_certificate s ≡ answer → r ≡ s
+same-certificate answer r s one two = one-result (answer_of carries_certificate) certified-read r s (one ∙ sym two)
+
+-- of the two that write a snapshot
 module _ (output output-after output-others : List ℕ) (r s : Result ℕ Refusal) (size : IfOk r (λ n. n ≤ length output)) (other-size : IfOk s (λ n. n ≤ length output))
     (written : output-after ≡ output_after (answer_of (carries_snapshot output-after) r) output)
     (also-written : output-others ≡ output_after (answer_of (carries_snapshot output-others) s) output) where
-  same-written : answer_of (carries_snapshot output-after) r ≡ answer_of (carries_snapshot output-others) s → SaysSame r s × (output-after ≡ output-others)
+  same-written : answer_of (carries_snapshot output-after) r ≡ answer_of (carries_snapshot output-others) s → (r ≡ s) × (output-after ≡ output-others)
   same-written same = (
-    same-size output output-after output-others r s size other-size written also-written same,
+    sym (size-read output output-after r written size) ∙ ap sized_in same ∙ size-read output output-others s also-written other-size,
     same-output (answer_of (carries_snapshot output-after) r) (answer_of (carries_snapshot output-others) s) output output-after output-others written also-written same,
   )
 
   -- of `migrate`
   pub same-migration : (answer : Reply) → answer_of (carries_snapshot output-after) r ≡ answer → answer_of (carries_snapshot output-others) s ≡ answer
-      → SaysSame r s × (output-after ≡ output-others)
+      → (r ≡ s) × (output-after ≡ output-others)
   same-migration answer one two = same-written (one ∙ sym two)
 
   -- of `snapshot`
   pub same-snapshot : (before after others : List ℕ) → All IsByte after → All IsByte others
       → Answers (snapshot (length output)) before (answer_of (carries_snapshot output-after) r) after
       → Answers (snapshot (length output)) before (answer_of (carries_snapshot output-others) s) others
-      → SaysSame r s × (after ≡ others) × (output-after ≡ output-others)
+      → (r ≡ s) × (after ≡ others) × (output-after ≡ output-others)
   same-snapshot before after others bytes other-bytes one two =
-      let same = same_answer before (snapshot (length output)) (answer_of (carries_snapshot output-after) r) after bytes one (answer_of (carries_snapshot output-others) s) others other-bytes two in
-      let (says, outputs) = same-written same.0 in
-      (says, same.1, outputs)
+      let same =
+      same_answer before (snapshot (length output)) (answer_of (carries_snapshot output-after) r) after bytes one (answer_of (carries_snapshot output-others) s) others other-bytes
+      two in
+      let both = same-written same.0 in
+      (both.0, same.1, both.1)

@@ -1,8 +1,8 @@
--- A certificate and a rotation, from the totals that were fitted: what was told of them decides the rule's test, and then the values are equal one by one.
-use mathlib.Core.Path.{◌≡◌, sym, subst}
+-- A certificate from the totals that were fitted: what was told of them decides the rule's test, and then the values are equal one by one. And how large since
+-- may be.
+use mathlib.Core.Path.{◌≡◌, subst}
 use mathlib.Core.Bool.{Bool, true, false}
 use mathlib.Core.List.{List, [], ◌∷◌}
-use Rattle.std.specs.Prelude.{Some, None}
 use Prim.Native.Nat.{ℕ, ◌≤◌}
 use native.Mathlib.Omega.{arith}
 use borrow.Author.Tests.{leb-true}
@@ -15,16 +15,9 @@ use Rattle.rules.specs.SnapshotsMigrationCertificates.{Row, Snapshot, fits64, co
 use Rattle.rules.proofs.Tests.{by-test, and-true}
 use Rattle.records.specs.declared.Head.{Head}
 use Rattle.heads.specs.declared.Rotated.{Rotated}
-use Rattle.certificates.specs.Certified.{totals_of, rotation_of}
+use Rattle.certificates.specs.Certified.{rotation_of}
 use Rattle.certificates.specs.declared.Totals.{Totals}
-use Rattle.certificates.proofs.BothTotals.{Fitting, fit_is, outside-is}
-
-module _ (rs : List Row) where
-  pub told-outside : None ≡ totals_of rs → totals_fit rs ≡ false
-  told-outside are = outside-is (initial_total rs) (committed_rows_total rs) (sym are)
-
-  pub told_fit : (t : Totals) → Some t ≡ totals_of rs → Fitting (initial_total rs) (committed_rows_total rs) t
-  told_fit t are = fit_is (initial_total rs) (committed_rows_total rs) t (sym are)
+use Rattle.certificates.proofs.BothTotals.{Fitting}
 
 -- ── a certificate ──────────────────────────────────────────────────────────────────────────────
 
@@ -38,7 +31,7 @@ module _ (s : Snapshot) (since : ℤ) (version rows active : ℕ) (v : version �
   unfolding certificate
   certified-outside e = rw e (λ i. replied (v i) (n i) (a i) false (pos 0) (pos 0) false since)
 
-  pub certified-fit : (balanced : Bool) (t : Totals) → balanced ≡ is_none (conservation s.rows) → Fitting (initial_total s.rows) (committed_rows_total s.rows) t
+  pub certified-fit : (balanced : Bool) (t : Totals) → balanced ≡ is_none (conservation s.rows) → Fitting s.rows t
       → replied version rows active balanced t.initial.0 t.committed.0 true since ≡ certificate s since
   unfolding certificate
   certified-fit balanced t b f = rw f.fit (λ i. replied (v i) (n i) (a i) (b i) (f.initial_is i) (f.committed_is i) true since)

@@ -10,7 +10,7 @@ use lib.ListN.{length}
 use Rattle.rules.specs.RoomAndSoundLedger.{Ledger, committed_total, Sound}
 use Rattle.rules.specs.AnswerNumbers.{Reply, done, AllocatorExhausted, AggregateOverflow, reply_of, Outcome, outcome, refused, sound, on_lent}
 use Rattle.rules.specs.AccountRules.{next_id_is_m}
-use Rattle.rules.specs.SnapshotsMigrationCertificates.{Row, Snapshot, account_rows, snapshot_of, taking_snapshot, conservation, initial_total, committed_rows_total, totals_fit, is_none, certificate, certificate_of_ledger, conservation_proof}
+use Rattle.rules.specs.SnapshotsMigrationCertificates.{Row, Snapshot, account_rows, snapshot_of, taking_snapshot, conservation, committed_rows_total, totals_fit, is_none, certificate, certificate_of_ledger, conservation_proof}
 use Rattle.rules.specs.Frames.{certify_ledger, prove_conservation, answer}
 use Rattle.rules.proofs.Tests.{by_bool}
 use Rattle.rules.proofs.OwnSnapshot.{own-snapshot-balanced}
@@ -85,7 +85,7 @@ module _ (L : Ledger) (not_last : next_id_is_m L ≡ false) where
   unfolding conservation_proof
   proof-overflows e = goes_on _ ∙ (rw e)
 
-  pub proof-is : (t : Totals) → Fitting (initial_total (account_rows L.places)) (committed_rows_total (account_rows L.places)) t → conservation_proof L ≡ outcome (proved (summary_of L) t) (headed (summary_of L).head L)
+  pub proof-is : (t : Totals) → Fitting (account_rows L.places) t → conservation_proof L ≡ outcome (proved (summary_of L) t) (headed (summary_of L).head L)
   unfolding conservation_proof
   proof-is t f =
       goes_on _ ∙ (rw f.fit (λ i. outcome (proved (summary_of L) (record { initial = record { 0 = sym f.initial_is i }; committed = record { 0 = sym f.committed_is i } })) (headed (summary_of L).head L)))

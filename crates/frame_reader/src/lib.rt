@@ -78,10 +78,7 @@ fn read_settlement(code: u8, bytes: &[u8]) -> Option<Frame>
     if bytes.len() != TWO_WORDS_END {
         return None;
     }
-    Some(Frame::Commit(
-        id,
-        big_endian::read_amount(&bytes[WORD_END..TWO_WORDS_END]),
-    ))
+    Some(Frame::Commit(id, big_endian::read_amount(&bytes[WORD_END..TWO_WORDS_END])))
 }
 
 // 07, 0b and 0d: the ledger's snapshot, certificate and proof. Nothing follows.
@@ -131,9 +128,7 @@ fn read_word_and_snapshot(code: u8, bytes: &[u8]) -> Option<Frame>
     if code == 10 {
         return Some(Frame::Migrate(big_endian::read8(&bytes[1..WORD_END])));
     }
-    Some(Frame::CertificateOfSnapshot(big_endian::read_amount(
-        &bytes[1..WORD_END],
-    )))
+    Some(Frame::CertificateOfSnapshot(big_endian::read_amount(&bytes[1..WORD_END])))
 }
 
 // A frame with a snapshot is passed over once; any other is read without a pass.

@@ -8,8 +8,7 @@ use borrow.Author.Tests.{lt-ltb}
 use lib.ListN.{length, take, drop, length-append}
 use lib.Seq.{take_at}
 use Rattle.rules.specs.Frames.{longest_line, operation_of_line}
-use Rattle.digits.specs.declared.Decoded.{Decoded}
-use Rattle.digits.specs.declared.Decoded.TheVariants.{Bytes, BadFrame}
+use Rattle.std.specs.Prelude.{Option as Found, Some, None}
 use Rattle.digits.specs.Decoding.{Decodes}
 
 -- so many bytes were read, and they stand at the room's front
@@ -17,8 +16,8 @@ pub record FrontHas (bytes : Option (List ℕ)) (room : List ℕ) (size : ℕ) :
   pub within : size ≤ length room
   pub are : bytes ≡ some (take size room)
 
-module _ (before after : List ℕ) {r : Decoded} where
-  pub front-has : {size : ℕ} (bytes : Option (List ℕ)) → Decodes bytes before after r → r ≡ Bytes size → FrontHas bytes after size
+module _ (before after : List ℕ) {r : Found ℕ} where
+  pub front-has : {size : ℕ} (bytes : Option (List ℕ)) → Decodes bytes before after r → r ≡ Some size → FrontHas bytes after size
   front-has none d e = absurd (let z : ◌≡◌ {A = ℕ} 0 1 = cc in omega arith)
   front-has {size} (some bs) d e =
       let long : length bs ≡ size = cc in
@@ -27,7 +26,7 @@ module _ (before after : List ℕ) {r : Decoded} where
         are = ap some (sym (ap (take size) d.room ∙ take_at bs (drop (length bs) before) size long));
       }
 
-  pub has-none : (bytes : Option (List ℕ)) → Decodes bytes before after r → r ≡ BadFrame → bytes ≡ none
+  pub has-none : (bytes : Option (List ℕ)) → Decodes bytes before after r → r ≡ None → bytes ≡ none
   has-none none d e = refl
   has-none (some bs) d e = absurd (let z : ◌≡◌ {A = ℕ} 0 1 = cc in omega arith)
 

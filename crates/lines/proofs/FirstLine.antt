@@ -14,11 +14,9 @@ use Rattle.rules.proofs.Lists.{all_join}
 use Rattle.rules.proofs.Tests.{less-or-not}
 use Rattle.digits.specs.Decoding.{FrontDecoded}
 use Rattle.digits.proofs.Decoding.{wrong-pair}
-use Rattle.lines.specs.Batching.{IsLine, FirstFeed, FirstLine, PromisesLine, next_of, NextFound, PromisesNext}
-use Rattle.lines.specs.declared.LineAnswer.{LineAnswer}
-use Rattle.lines.specs.declared.LineAnswer.TheVariants as answered
-use Rattle.lines.specs.declared.LineEnd.TheVariants as found
-use Rattle.lines.specs.declared.Next.{Next}
+use Rattle.lines.specs.Batching.{line_room, IsLine, FirstFeed, FirstLine, PromisesLine, PromisesNext}
+use Rattle.std.specs.Prelude.{Option as Found, Some, None}
+use Rattle.lines.specs.declared.Answered.{Answered}
 use Rattle.lines.proofs.Decoded.{too_long}
 use Rattle.lines.proofs.LineFound.{line-stands}
 
@@ -37,13 +35,13 @@ no-feed (c ∷ d ∷ cs) made =
 -- ── the line feed looked for behind characters that are none ───────────────────────────────────
 
 module _ (input : List ℕ) (from : ℕ) (front : IsLine (take from input)) where
-  pub first-line : (end : ℕ) → FirstFeed input from (found.At end) → FirstLine input end
+  pub first-line : (end : ℕ) → FirstFeed input from (Some end) → FirstLine input end
   first-line end (behind, within, feed, is_line) =
       let end_is : end ≡ from + (end - from) = omega arith in
       let whole : take end input ≡ take from input ++ take (end - from) (drop from input) = ap (λ n. take n input) end_is ∙ take-add from (end - from) input in
       record { inside = within; feed = feed; is_line = subst IsLine (sym whole) (all_join (λ c. c ≢ line_feed) (take from input) (take (end - from) (drop from input)) front is_line) }
 
-  pub no_line : FirstFeed input from found.Missing → IsLine input
+  pub no_line : FirstFeed input from None → IsLine input
   no_line is_line = subst IsLine (take-append-drop from input) (all_join (λ c. c ≢ line_feed) (take from input) (drop from input) front is_line)
 
 -- ── the front decoded ──────────────────────────────────────────────────────────────────────────
@@ -71,22 +69,15 @@ module _ (input : List ℕ) (limit : ℕ) (within : limit ≤ length input) {bef
 
 -- ── its answer ─────────────────────────────────────────────────────────────────────────────────
 
-module _ (input before after output-before output-after : List ℕ) (end : ℕ) (f : FirstLine input end) where
-  abbrev Told : Next → Type 0
-  Told r = NextFound input r × PromisesNext input before after output-before output-after r
+module _ (input before after output-before output-after : List ℕ) {end : ℕ} (f : FirstLine input end) {o : Option Operation} (operation : operation_of_line (take end input) ≡ o) where
+  pub told-answered : {size : ℕ} → PromisesLine o before after output-before output-after (Some size) → PromisesLine (operation_of_line (take end input)) before after output-before output-after (Some size)
+  told-answered {size} promise = subst (λ p. PromisesLine p before after output-before output-after (Some size)) (sym operation) promise
 
-  told_of : (answer : LineAnswer) → PromisesLine (operation_of_line (take end input)) before after output-before output-after answer → Told (next_of end answer)
-  told_of (answered.Written size) promise = (f, promise)
-  told_of answered.OutputTooShort promise = (
-    tt,
-    λ l is. let (short, same, output-same) = promise l is in (
-      same,
-      output-same,
-      inr record { line = take end input; later = drop (suc end) input; is_line = f.is_line; stands = line-stands input f; short = short },
-    ),
-  )
-
-  pub told : (o : Option Operation) (answer : LineAnswer) {r : Next} → r ≡ next_of end answer → operation_of_line (take end input) ≡ o
-      → PromisesLine o before after output-before output-after answer → Told r
-  told o answer is operation promise =
-      subst Told (sym is) (told_of answer (subst (λ p. PromisesLine p before after output-before output-after answer) (sym operation) promise))
+  pub told-stopped : {r : Found Answered} → r ≡ None → PromisesLine o before after output-before output-after None → PromisesNext input before after output-before output-after r
+  told-stopped is promise =
+      subst (PromisesNext input before after output-before output-after) (sym is)
+      (λ l lent. let (short, same, output-same) = promise l lent in (
+        same,
+        output-same,
+        inr record { line = take end input; later = drop (suc end) input; is_line = f.is_line; stands = line-stands input f; short = subst (λ p. length output-before < line_room p) (sym operation) short },
+      ))

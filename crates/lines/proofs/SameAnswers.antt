@@ -17,8 +17,7 @@ use Rattle.rules.proofs.Values.{Told, both_told, as-told, bytes-told}
 use Rattle.room.proofs.Decoding.{canonical}
 use Rattle.room.proofs.SameAnswers.{by-room}
 use Rattle.frames.specs.Answering.{IsLent, OfLent}
-use Rattle.lines.specs.declared.LineAnswer.{LineAnswer}
-use Rattle.lines.specs.declared.LineAnswer.TheVariants as answered
+use Rattle.std.specs.Prelude.{Option as Found, Some, None}
 use Rattle.lines.specs.declared.Progress.{Progress}
 use Rattle.lines.specs.Batching.{line_room, IsLine, with_feeds, LineAnswered, PromisesLine, HadRoom, NextTooLong, Batches, PromisesBatch}
 use Rattle.lines.proofs.StaysKnown.{unsound-before-answer, unsound-before-lines}
@@ -46,19 +45,19 @@ same_after o l before after others bytes other-bytes one two kept also_kept =
 
 module _ (o : Option Operation) (l : Lent) (before after others output output-after output-others : List ℕ)
     (bytes : All IsByte after) (other-bytes : All IsByte others) where
-  pub same_line : (r s : LineAnswer) → LineAnswered o l before after output output-after r → LineAnswered o l before others output output-others s
-      → Same LineAnswer r s after others output-after output-others
-  same_line (answered.Written size) (answered.Written other) (_, one) (_, two) =
+  pub same_line : (r s : Found ℕ) → LineAnswered o l before after output output-after r → LineAnswered o l before others output output-others s
+      → Same (Found ℕ) r s after others output-after output-others
+  same_line (Some size) (Some other) (_, one) (_, two) =
       let sizes : size ≡ other = one.size ∙ sym two.size in
       let text = answer_line (answer_or23 l o).reply in
       record {
-        answer = ap answered.Written sizes;
+        answer = ap Some sizes;
         memory = same_after o l before after others bytes other-bytes one.lent two.lent one.untouched two.untouched;
         output = one.output ∙ ap (λ n. text ++ (line_feed ∷ drop n output)) sizes ∙ sym two.output;
       }
-  same_line (answered.Written size) answered.OutputTooShort (enough, _) (short, _, _) = absurd (omega arith)
-  same_line answered.OutputTooShort (answered.Written other) (short, _, _) (enough, _) = absurd (omega arith)
-  same_line answered.OutputTooShort answered.OutputTooShort (_, one, one-output) (_, two, two-output) =
+  same_line (Some size) None (enough, _) (short, _, _) = absurd (omega arith)
+  same_line None (Some other) (short, _, _) (enough, _) = absurd (omega arith)
+  same_line None None (_, one, one-output) (_, two, two-output) =
       record { answer = refl; memory = one ∙ sym two; output = one-output ∙ sym two-output }
 
 -- ── the lines at the front of an input ─────────────────────────────────────────────────────────
@@ -180,19 +179,19 @@ same-told {after = after} {others = others} {output-after = output-after} {outpu
     (both_told told (both_told (bytes-told after others) (bytes-told output-after output-others)))
 
 -- an answer to a line by its size, 0 where there is none
-abbrev size_of : LineAnswer → ℕ
-size_of (answered.Written size) = suc size
-size_of answered.OutputTooShort = 0
+abbrev size_of : Found ℕ → ℕ
+size_of (Some size) = suc size
+size_of None = 0
 
-abbrev answer_of : ℕ → LineAnswer
-answer_of zero = answered.OutputTooShort
-answer_of (suc size) = answered.Written size
+abbrev answer_of : ℕ → Found ℕ
+answer_of zero = None
+answer_of (suc size) = Some size
 
-answer_back : (r : LineAnswer) → answer_of (size_of r) ≡ r
-answer_back (answered.Written size) = refl
-answer_back answered.OutputTooShort = refl
+answer_back : (r : Found ℕ) → answer_of (size_of r) ≡ r
+answer_back (Some size) = refl
+answer_back None = refl
 
-line-told : (r s : LineAnswer) → Told (r ≡ s)
+line-told : (r s : Found ℕ) → Told (r ≡ s)
 line-told r s = as-told (λ e. sym (answer_back r) ∙ ap answer_of e ∙ answer_back s) (ap size_of) (equal_or_not (size_of r) (size_of s))
 
 progress-told : (b c : Progress) → Told (b ≡ c)
@@ -202,10 +201,10 @@ progress-told b c =
 
 -- of `lines::answer` and `lines::batch`, for any memory
 module _ (before after others output output-after output-others : List ℕ) (bytes : All IsByte after) (other-bytes : All IsByte others) where
-  pub one_answer : (o : Option Operation) (r s : LineAnswer)
+  pub one_answer : (o : Option Operation) (r s : Found ℕ)
       → PromisesLine o before after output output-after r
       → PromisesLine o before others output output-others s
-      → Same LineAnswer r s after others output-after output-others
+      → Same (Found ℕ) r s after others output-after output-others
   one_answer o r s one two =
       by-lent before (same-told (line-told r s))
       (λ l is_lent. same_line o l before after others output output-after output-others bytes other-bytes r s (one l is_lent) (two l is_lent))

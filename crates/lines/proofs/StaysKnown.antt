@@ -14,7 +14,7 @@ use Rattle.rules.specs.Frames.{Operation, on_account, take_snapshot, certify_led
 use Rattle.room.specs.Room.{SoundRoom}
 use Rattle.frames.specs.Answering.{IsLent, Known}
 use Rattle.lines.specs.Batching.{PromisesLine}
-use Rattle.lines.specs.declared.LineAnswer.TheVariants as answered
+use Rattle.std.specs.Prelude.{Some}
 
 -- an answer leaves what is lent as it was, or is the outcome of a ledger's operation
 lent_by : (P : Lent → Type 0) (l : Lent) (o : Option Operation) → P l → ((f : Ledger → Outcome) → P (on_lent l f).lent) → P (answer_or23 l o).lent
@@ -55,6 +55,6 @@ unsound-before-lines l [] e = e
 unsound-before-lines l (line ∷ lines) e = unsound-before-answer l (operation_of_line line) (unsound-before-lines (answer_to_line l line).lent lines e)
 
 pub stays-known : (known : Bool) (o : Option Operation) (before after output-before output-after : List ℕ) (size : ℕ) → Known known before
-    → PromisesLine o before after output-before output-after (answered.Written size) → Known known after
+    → PromisesLine o before after output-before output-after (Some size) → Known known after
 stays-known true o before after output-before output-after size is promise = stays_sound after is.ledger o (promise (sound is.ledger) is.is_room).1.lent
 stays-known false o before after output-before output-after size is promise = subst (λ m. Known false m) (sym ((promise unsound is).1.untouched refl)) is

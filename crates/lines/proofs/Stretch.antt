@@ -18,8 +18,7 @@ use Rattle.records.specs.Rows.{row, put}
 use Rattle.records.proofs.Rows.{two-halves}
 use Rattle.frames.specs.Answering.{IsLent}
 use Rattle.lines.specs.Batching.{line_room, IsLine, FirstLine, with_feeds, AnswersLine, HadRoom, NextTooLong, PromisesLine, PromisesNext, Batches}
-use Rattle.lines.specs.declared.LineAnswer.TheVariants as answered
-use Rattle.lines.specs.declared.Next.TheVariants as next
+use Rattle.std.specs.Prelude.{Some, None}
 use Rattle.lines.proofs.LineFound.{feed-behind}
 use Rattle.lines.proofs.StaysKnown.{unsound-after}
 
@@ -80,7 +79,7 @@ part_from from output = row (length output - from) from output
 pub part_length : (from : ℕ) (output : List ℕ) → length (part_from from output) ≡ length output - from
 part_length from output = length-take-le (length output - from) (drop from output) (omega (arith, length-drop from output))
 
-pub rest-is : (from : ℕ) (input : List ℕ) → part_from from input ≡ drop from input
+rest-is : (from : ℕ) (input : List ℕ) → part_from from input ≡ drop from input
 rest-is from input = take_all (length input - from) (drop from input) (omega (arith, length-drop from input))
 
 part_left : {l : Lent} {input before room output₀ output : List ℕ} {used written : ℕ} → Underway l input before room output₀ output used written → part_from written output ≡ drop written output₀
@@ -88,12 +87,15 @@ part_left {l} {output₀ = output₀} {output = output} {written = written} u =
     rest-is written output ∙ ap (λ o. drop written o) u.output ∙ drop_at (answers_to_lines l u.lines) (drop written output₀) written (sym u.are_written)
 
 pub turn : {l : Lent} {input before room output₀ output : List ℕ} {used written : ℕ} (room-after part-after : List ℕ) (end size : ℕ)
-    → Underway l input before room output₀ output used written → FirstLine (drop used input) end
-    → PromisesLine (operation_of_line (take end (drop used input))) room room-after (part_from written output) part-after (answered.Written size)
+    → Underway l input before room output₀ output used written → FirstLine (part_from used input) end
+    → PromisesLine (operation_of_line (take end (part_from used input))) room room-after (part_from written output) part-after (Some size)
     → Underway l input before room-after output₀ (put written (length output - written) output part-after) (used + (end + 1)) (written + size)
 unfolding answer_to_line
-turn {l} {input} {before} {room} {output₀} {output} {used} {written} room-after part-after end size u f promise =
+turn {l} {input} {before} {room} {output₀} {output} {used} {written} room-after part-after end size u found answered =
+    let f : FirstLine (drop used input) end = subst (λ rest. FirstLine rest end) (rest-is used input) found in
     let line = take end (drop used input) in
+    let promise : PromisesLine (operation_of_line line) room room-after (part_from written output) part-after (Some size) =
+    subst (λ rest. PromisesLine (operation_of_line (take end rest)) room room-after (part_from written output) part-after (Some size)) (rest-is used input) answered in
     let lent = lent_after l u.lines in
     let answers = answers_to_lines l u.lines in
     let a = (promise lent u.lent).1 in
@@ -146,10 +148,11 @@ at-the-end {input = input} u h = stop u (inl (subst IsLine (sym (drop_of_length-
 
 pub stopped : {l : Lent} {input before room output₀ output : List ℕ} {used written : ℕ} (room-after part-after : List ℕ)
     → Underway l input before room output₀ output used written → length output ≡ length output₀
-    → PromisesNext (drop used input) room room-after (part_from written output) part-after next.Stopped
+    → PromisesNext (part_from used input) room room-after (part_from written output) part-after None
     → Batches l input before room-after output₀ (put written (length output - written) output part-after) (record { used = used; written = written })
 stopped {l} {input} {before} {room} {output₀} {output} {used} {written} room-after part-after u same promise =
-    let (room-same, part-same, why) = promise (lent_after l u.lines) u.lent in
+    let (room-same, part-same, given) = promise (lent_after l u.lines) u.lent in
+    let why : IsLine (drop used input) ⊎ NextTooLong (drop used input) (length (part_from written output)) = subst (λ rest. IsLine rest ⊎ NextTooLong rest (length (part_from written output))) (rest-is used input) given in
     let k = length output - written in
     let unchanged : put written k output part-after ≡ output = ap (λ part. put written k output part) part-same ∙ put_same written k output in
     let left : length (part_from written output) ≡ length output₀ - written = part_length written output ∙ ap (λ n. n - written) same in

@@ -101,12 +101,10 @@ pub fn line_end(input: &[u8], from: usize) -> Option<usize>
     requires { from ≤ length input.now }
     ensures { FirstFeed input.now from result }
 {
-    let mut at = from;
-    while at < input.len() {
+    for at in from..input.len() {
         if input[at] == LINE_FEED {
             return Some(at);
         }
-        at += 1;
     }
     None
 }
@@ -159,13 +157,8 @@ fn answer_lines(
     let mut used = 0;
     let mut written = 0;
     while used < input.len() {
-        let Some(answered) = answer_next(
-            room,
-            known,
-            &input[used..],
-            work,
-            &mut output[written..],
-        ) else {
+        let Some(answered) = answer_next(room, known, &input[used..], work, &mut output[written..])
+        else {
             return Progress { used, written };
         };
         used += answered.end + 1;

@@ -1,6 +1,6 @@
 -- The values of an answer by the places where they stand. The rules read them one after the other, along the form; each takes so many bytes, and only a flag and a name can
 -- be refused (`Stands`, one line for each kind of value). So all of them come to the words at their places where the bytes end just behind the last (`places`). A snapshot
--- takes all that is left, and is read by itself (`snapshot-read`).
+-- takes all that is left, and is read by itself (SnapshotPlace).
 use mathlib.Core.Path.{◌≡◌, refl, sym, ◌∙◌, ap, subst}
 use mathlib.Core.Bool.{Bool, true, false, cond}
 use mathlib.Core.List.{List, [], ◌∷◌, map}

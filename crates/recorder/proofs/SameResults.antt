@@ -4,13 +4,15 @@ use mathlib.Core.Path.{◌≡◌, refl, sym, ◌∙◌, ap}
 use mathlib.Core.Logic.{⊎_elim}
 use mathlib.Core.Bool.{Bool, true, ◌||◌}
 use mathlib.Core.List.{List, [], ◌∷◌}
+use mathlib.Core.Option
 use mathlib.Core.Option.{Option, none, some}
 use Prim.Native.Nat.{ℕ, ◌*◌}
 use lib.Dec.{eqb, ltb}
 use lib.ListN.{length}
 use Rattle.std.specs.Prelude.{Result, Ok, Err}
 use Rattle.rules.specs.AnswerNumbers.{Value, Reply}
-use Rattle.rules.specs.Recorder.{Written, Recording, fitting, recording, word_of, answer_of_line}
+use Rattle.rules.specs.Frames.{Parts}
+use Rattle.rules.specs.Recorder.{Written, Recording, fitting, recording, frame_of_some, operation_of_parts, record_operation, answer_of_words, answer_written, record_answer, word_of, answer_of_line}
 use Rattle.rules.proofs.Tests.{by-test, less-or-not, true-false}
 use Rattle.rules.proofs.Values.{beside}
 use Rattle.digits.proofs.Decoding.{same-front}
@@ -71,13 +73,23 @@ read_back (Err refusal.NamesFull) t = true-false t refl
 read_back (Err refusal.ReservationsFull) t = true-false t refl
 read_back (Err refusal.UnsoundLedger) t = true-false t refl
 
--- the rules' `record_operation` and `record_answer` are `recording` of what the operation or the answer is written as
+-- of whatever is written; an operation and an answer follow
 pub same-recorded : (text : Written → List ℕ) (o : Option Written) (room after others : List ℕ) (r q : Result ℕ Refusal)
     → Records (recording text o room) after r → Records (recording text o room) others q → (r ≡ q) × (after ≡ others)
 same-recorded text o room after others r q one two = (sym (back r one.reply) ∙ back q two.reply, one.room ∙ sym two.room)
   where
     back : (x : Result ℕ Refusal) → answer_of carries_count x ≡ (recording text o room).reply → recorded-in (recording text o room).reply ≡ x
     back x e = ap recorded-in (sym e) ∙ read_back x (ap (λ y. is_told y.number) e ∙ recording-told text o room)
+
+pub same-operation : (text : Written → List ℕ) (code : ℕ) (p : Parts) (room after others : List ℕ) (r q : Result ℕ Refusal)
+    → Records (record_operation text code p room) after r → Records (record_operation text code p room) others q → (r ≡ q) × (after ≡ others)
+unfolding record_operation
+same-operation text code p room = same-recorded text (frame_of_some (operation_of_parts code p)) room
+
+pub same-written : (text : Written → List ℕ) (code : ℕ) (words part room after others : List ℕ) (r q : Result ℕ Refusal)
+    → Records (record_answer text code words part room) after r → Records (record_answer text code words part room) others q → (r ≡ q) × (after ≡ others)
+unfolding record_answer
+same-written text code words part room = same-recorded text (Option.map answer_written (answer_of_words code words part)) room
 
 -- ── what is read ───────────────────────────────────────────────────────────────────────────────
 

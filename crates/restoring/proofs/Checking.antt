@@ -1,13 +1,13 @@
 -- The checks of a restore in their order, one law for each answer; each supposes what the checks before it found.
 use mathlib.Core.Path.{◌≡◌, sym, ap, ◌∙◌}
 use mathlib.Core.Bool.{true, false}
-use mathlib.Core.Option.{Option, none, some}
+use mathlib.Core.Option.{none, some}
 use Prim.Native.Nat.{ℕ, ◌≤◌, ◌<◌}
 use borrow.Author.Tests.{lt-ltb, le-ltb}
 use lib.ListN.{length}
 use Rattle.std.specs.Prelude.{Result, Ok, Err}
 use Rattle.rules.specs.AnswerNumbers.{Refusal, NameTooLong, NamesFull}
-use Rattle.rules.specs.SnapshotsMigrationCertificates.{Snapshot, has_long_name, and_then, validation, restore_refusal}
+use Rattle.rules.specs.SnapshotsMigrationCertificates.{Snapshot, has_long_name, validation, restore_refusal}
 use Rattle.refusals.specs.declared.Refusal.{Refusal as Told}
 use Rattle.refusals.specs.Answers.{refusal_of, refusal_in}
 use Rattle.validation.proofs.Deciding.{decides, goes_on, refuses, passes_on}

@@ -1,6 +1,5 @@
 -- A restore by what is said of the version: a refusal leaves the room as it was, and else it holds the ledger restored. And the two forms as such.
-use mathlib.Core.Path.{◌≡◌, refl, sym, ap, subst, ◌∙◌}
-use mathlib.Core.Logic.{◌≢◌}
+use mathlib.Core.Path.{◌≡◌, sym, ap, subst, ◌∙◌}
 use mathlib.Core.List.{List, []}
 use mathlib.Core.Option.{Option, none, some}
 use Prim.Native.Nat.{ℕ}
@@ -10,18 +9,17 @@ use mir.Syntax.{w8}
 use mir.Val.{Fits}
 use Rattle.std.specs.Prelude.{Result, Ok, Err}
 use Rattle.rules.specs.RoomAndSoundLedger.{Ledger, Sound}
-use Rattle.rules.specs.AnswerNumbers.{Refusal, Reply, reply_of, Outcome, outcome, refused as refuse, sound, done, on_lent}
-use Rattle.rules.specs.SnapshotsMigrationCertificates.{Snapshot, validation, restored, or_else, restore_version, recovery_version, restore_refusal, restore, recovery_restore, reply_or}
+use Rattle.rules.specs.AnswerNumbers.{Refusal, Reply, reply_of, outcome, refused as refuse, sound, done, on_lent}
+use Rattle.rules.specs.SnapshotsMigrationCertificates.{Snapshot, validation, restored, or_else, restore_version, recovery_version, restore_refusal, restore, recovery_restore}
 use Rattle.rules.specs.Frames.{restore_from, recover_from, answer}
 use Rattle.rules.specs.Domain.{SnapshotFits}
 use Rattle.rules.proofs.Checks.{both-pass, check-passes}
 use Rattle.rules.proofs.SnapshotBytes.{snapshot-only}
 use Rattle.rules.proofs.SnapshotSoundness.{answer-sound}
-use Rattle.names.specs.Names.{spelled}
 use Rattle.numbers.proofs.Bytes.{all-bytes}
 use Rattle.snapshot_reader.specs.Standing.{IsSnapshot, OfSnapshot}
 use Rattle.refusals.specs.declared.Refusal.{Refusal as Told}
-use Rattle.refusals.specs.Answers.{refusal_of, refusal_in, answer_of, carries_nothing}
+use Rattle.refusals.specs.Answers.{refusal_of, refusal_in}
 use Rattle.records.specs.Records.{sizes_of}
 use Rattle.records.specs.declared.Sizes.{Sizes}
 use Rattle.room.specs.Room.{IsRoom, OfRoom, Performed}

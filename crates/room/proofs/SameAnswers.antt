@@ -1,16 +1,14 @@
 -- What the contracts leave open: nothing. For any memory, the answer and every byte at exit are fixed; and where the rules leave the ledger as it was, as
 -- every refusal but 6 does, no byte changes. Whether memory is a room need not be decided: whether answers and bytes are the same can be told (`by-room`).
-use mathlib.Core.Path.{◌≡◌, sym, ◌∙◌, subst, ap}
+use mathlib.Core.Path.{◌≡◌, sym, ◌∙◌, subst}
 use mathlib.Core.Logic.{⊎_elim}
-use mathlib.Core.Bool.{Bool}
 use mathlib.Core.List.{List}
 use Prim.Native.Nat.{ℕ}
-use lib.ListN.{get_or}
 use Rattle.rules.specs.Lists.{All}
 use Rattle.rules.specs.RoomAndSoundLedger.{Ledger, IsByte}
-use Rattle.rules.specs.AnswerNumbers.{Count, Reply, Outcome}
-use Rattle.rules.proofs.Values.{Told, both_told, bytes-told, Parts, parts_of, answers-told}
-use Rattle.numbers.specs.declared.Microcents.{Microcents}
+use Rattle.rules.specs.AnswerNumbers.{Reply, Outcome}
+use Rattle.rules.proofs.Values.{Told, both_told, bytes-told, answers-told}
+use Rattle.refusals.proofs.SameResult.{ReadBack, one-result}
 use Rattle.room.specs.Room.{IsRoom, OfRoom, Answers}
 use Rattle.room.proofs.Decoding.{canonical}
 
@@ -32,34 +30,10 @@ module _ (before : List ℕ) (f : Ledger → Outcome) (r : Reply) (after : List 
 
 -- ── the result itself ──────────────────────────────────────────────────────────────────────────
 
--- the values that an answer carries, by their order
-abbrev value_at : Reply → ℕ → Parts
-value_at r i = parts_of (get_or r.carried i (Count 0))
-
-abbrev pub amount_at : Reply → ℕ → Microcents
-amount_at r i = record { 0 = (value_at r i).amount }
-
-abbrev pub number_at : Reply → ℕ → ℕ
-number_at r i = (value_at r i).number
-
-abbrev pub yes_at : Reply → ℕ → Bool
-yes_at r i = (value_at r i).yes
-
-abbrev pub bytes_at : Reply → ℕ → List ℕ
-bytes_at r i = (value_at r i).bytes
-
--- a result that can be read back from its answer is fixed by it
-pub record ReadBack {R : Type 0} (reply : R → Reply) : Type 0 where
-  pub back : Reply → R
-  pub is : (r : R) → back (reply r) ≡ r
-
 module _ {R : Type 0} (reply : R → Reply) (read : ReadBack reply) where
-  pub one-result : (r s : R) → reply r ≡ reply s → r ≡ s
-  one-result r s e = sym (read.is r) ∙ ap read.back e ∙ read.is s
-
   -- of every operation on a ledger: two results that its contract permits are one, and so is the memory
   pub same-result : (f : Ledger → Outcome) (before after others : List ℕ) → All IsByte after → All IsByte others → (r s : R)
       → Answers f before (reply r) after → Answers f before (reply s) others → (r ≡ s) × (after ≡ others)
   same-result f before after others bytes other-bytes r s one two =
       let same = same_answer before f (reply r) after bytes one (reply s) others other-bytes two in
-      (one-result r s same.0, same.1)
+      (one-result reply read r s same.0, same.1)

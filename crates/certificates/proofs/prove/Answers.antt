@@ -4,7 +4,7 @@ use Rattle.std.proofs.lemmas.Result.{err_from_is_err_and}
 use Rattle.rules.specs.SnapshotsMigrationCertificates.{account_rows, conservation_proof}
 use Rattle.room.proofs.SoundRoom.{sized}
 use Rattle.certificates.specs.Certified.{summary_of}
-use Rattle.certificates.proofs.Certifying.{told-outside, told_fit}
+use Rattle.certificates.proofs.BothTotals.{fit_is, outside-is}
 use Rattle.certificates.proofs.Summarizing.{told-exhausted, told-taken}
 use Rattle.certificates.proofs.Taking.{proof-sound, proof-overflows, proved, proof-is, stays, becomes}
 use Rattle.certificates.proofs.prove.Goals as goal
@@ -25,7 +25,7 @@ pub returns-in_default : goal.returns-in_default
 returns-in_default c L r =
     let summary = c.in_ok-summary.summary in
     let t = told-taken L summary (c.in_ok-summary.ensures L r) in
-    let outside = told-outside (account_rows L.places) (sym c.in_default.is ∙ ap (λ s. s.totals) t.summary) in
+    let outside = outside-is (account_rows L.places) (sym c.in_default.is ∙ ap (λ s. s.totals) t.summary) in
     becomes c.args.room.now L r conservation_proof (proof-sound L r.sound) _ _ summary.head (summary_of L).head (proof-overflows L t.not_last outside) refl
     (ap (λ s. s.head) t.summary) c.put_head.new.room c.put_head.ensures
 
@@ -34,6 +34,6 @@ returns c L r =
     let summary = c.in_ok-summary.summary in
     let totals = c.in-Some.fitted in
     let t = told-taken L summary (c.in_ok-summary.ensures L r) in
-    let fitting = told_fit (account_rows L.places) totals (sym c.in-Some.is ∙ ap (λ s. s.totals) t.summary) in
+    let fitting = fit_is (account_rows L.places) totals (sym c.in-Some.is ∙ ap (λ s. s.totals) t.summary) in
     becomes c.args.room.now L r conservation_proof (proof-sound L r.sound) _ _ summary.head (summary_of L).head (proof-is L t.not_last totals fitting)
     (ap (λ s. proved s totals) t.summary) (ap (λ s. s.head) t.summary) c.put_head.new.room c.put_head.ensures

@@ -27,12 +27,12 @@ load_place-place-requires c = place-within _ c.requires _ c.load_sizes-sizes.ens
 pub amount-requires : goal.amount-requires
 amount-requires c =
     let room = c.args.room.now in
-    (loaded-small room c.requires.ledger c.requires.is_room (place-counted room c.load_sizes-sizes.ensures c.loop-i-test.true) c.load_place-place.ensures).initial
+    omega (arith, loaded-small room c.requires.ledger c.requires.is_room (place-counted room c.load_sizes-sizes.ensures c.loop-i-test.true) c.load_place-place.ensures)
 
 pub amount-requires-in-loop-i : goal.amount-requires-in-loop-i
 amount-requires-in-loop-i c =
     let room = c.args.room.now in
-    (loaded-small room c.requires.ledger c.requires.is_room (place-counted room c.load_sizes-sizes.ensures c.loop-i-test.true) c.load_place-place.ensures).committed
+    omega (arith, loaded-small room c.requires.ledger c.requires.is_room (place-counted room c.load_sizes-sizes.ensures c.loop-i-test.true) c.load_place-place.ensures)
 
 pub loop-i-preserved : goal.loop-i-preserved
 loop-i-preserved c =

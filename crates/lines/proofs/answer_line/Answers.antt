@@ -6,7 +6,7 @@ use Prim.Native.Nat.{ℕ}
 use lib.Seq.{length-take-le}
 use Rattle.rules.specs.Frames.{bytes_of_line}
 use Rattle.rules.proofs.FrameBytes.{line-as-frame, no-bytes-no-frame}
-use Rattle.digits.specs.declared.Decoded.TheVariants.{Bytes}
+use Rattle.std.specs.Prelude.{Some}
 use Rattle.lines.specs.Batching.{LineAnswered}
 use Rattle.lines.proofs.Decoded.{FrontHas, front-has, has-none, too_long}
 use Rattle.lines.proofs.answer_line.Lts as place
@@ -29,7 +29,7 @@ module _ (c : After-bytes_of_line) where
   abbrev work : List ℕ
   work = c.bytes_of_line.new.bytes
 
-  front : {size : ℕ} → c.bytes_of_line.result ≡ Bytes size → FrontHas (bytes_of_line line) work size
+  front : {size : ℕ} → c.bytes_of_line.result ≡ Some size → FrontHas (bytes_of_line line) work size
   front is = front-has start.args.work.now work (bytes_of_line line) c.bytes_of_line.ensures is
 
 pub returns-then-line-gt-LONGEST_LINE : goal.returns-then-line-gt-LONGEST_LINE
@@ -45,14 +45,14 @@ returns-in_default c l is_lent =
     (c.answer_no_frame-in_default.ensures s.args.room.now l is_lent)
 
 pub slice_bounds-answer_frame-end : goal.slice_bounds-answer_frame-end
-slice_bounds-answer_frame-end c = (front c.before.before.before.before.before c.in-Bytes.is).within
+slice_bounds-answer_frame-end c = (front c.before.before.before.before.before c.in-Some.is).within
 
 pub slice_bounds-answer_frame-end-2 : goal.slice_bounds-answer_frame-end-2
-slice_bounds-answer_frame-end-2 c = sym (length-take-le c.in-Bytes.size (work c.before.before.before.before.before) (front c.before.before.before.before.before c.in-Bytes.is).within)
+slice_bounds-answer_frame-end-2 c = sym (length-take-le c.in-Some.size (work c.before.before.before.before.before) (front c.before.before.before.before.before c.in-Some.is).within)
 
 pub returns : goal.returns
 returns c l is_lent =
     let s = start c.before.before.before.before.before.before.before.before.before.before.before in
     subst (λ o. LineAnswered o l s.args.room.now c.answer_frame.new.room s.args.output.now c.answer_frame.new.output c.answer_frame.result)
-    (sym (line-as-frame (line c.before.before.before.before.before.before.before.before.before.before.before) _ (front c.before.before.before.before.before.before.before.before.before.before.before c.in-Bytes.is).are))
+    (sym (line-as-frame (line c.before.before.before.before.before.before.before.before.before.before.before) _ (front c.before.before.before.before.before.before.before.before.before.before.before c.in-Some.is).are))
     (c.answer_frame.ensures l is_lent)

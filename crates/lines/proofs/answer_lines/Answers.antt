@@ -1,161 +1,69 @@
--- `lines::answer_lines`, by a loop whose invariant is `Underway` of Stretch.antt for whatever is lent, and that what is known of the memory still holds
--- (StaysKnown.antt). `turn` adds a line; `stopped` and `at-the-end` make the batch of it.
-use mathlib.Core.Path.{◌≡◌, refl, subst, ◌∙◌}
+-- `lines::answer_lines`: each line answered makes the stretch longer (`turn`), and its answer stands within the output whatever is lent (`longer`).
+use mathlib.Core.Path.{◌≡◌, subst, ◌∙◌}
+use mathlib.Core.Bool.{Bool}
 use mathlib.Core.List.{List}
+use mathlib.Core.Option.{Option}
 use Prim.Native.Nat.{ℕ, ◌+◌, ◌-◌, ◌≤◌}
 use native.Mathlib.Omega.{arith}
-use lib.ListN.{length, take, drop, length-drop}
-use Rattle.rules.specs.Frames.{operation_of_line}
+use lib.ListN.{length, take, drop}
+use Rattle.std.specs.Prelude.{Some}
+use Rattle.rules.specs.Frames.{Operation, operation_of_line}
 use Rattle.records.specs.Rows.{put}
 use Rattle.records.proofs.Rows.{put-length}
-use Rattle.lines.specs.Batching.{FirstLine, PromisesLine, NextFound, NextAnswered, PromisesNext}
-use Rattle.lines.specs.declared.LineAnswer.TheVariants as answered
-use Rattle.lines.specs.declared.Next.{Next}
-use Rattle.lines.specs.declared.Next.TheVariants as next
+use Rattle.frames.specs.Answering.{Known}
+use Rattle.lines.specs.Batching.{FirstLine, PromisesLine}
 use Rattle.lines.proofs.AnswerLines.{some-lent}
 use Rattle.lines.proofs.StaysKnown.{stays-known}
-use Rattle.lines.proofs.Stretch.{begun, part_from, part_length, rest-is, written-within, turn, stopped, at-the-end}
-use Rattle.lines.proofs.answer_lines.Lts as place
-use Rattle.lines.proofs.answer_lines.Tie as tie
+use Rattle.lines.proofs.Stretch.{begun, part_from, part_length, written-within, turn, stopped, at-the-end}
 use Rattle.lines.proofs.answer_lines.Goals as goal
 
-abbrev Start : Type 0
-Start = place.Start tie.the-claims tie.handed_pre tie.handed_post goal.the-invariant-loop-used goal.the-decreases-loop-used tie.handed_clauses
+further : (input : List ℕ) {used end : ℕ} → FirstLine (part_from used input) end → used ≤ length input → used + (end + 1) ≤ length input
+further input {used} first read = omega (arith, first.inside, part_length used input)
 
-abbrev At-loop-used : Type 0
-At-loop-used = place.At-loop tie.the-claims tie.handed_pre tie.handed_post goal.the-invariant-loop-used goal.the-decreases-loop-used tie.handed_clauses
-
-abbrev After-answer_next : Type 0
-After-answer_next = place.After-answer_next tie.the-claims tie.handed_pre tie.handed_post goal.the-invariant-loop-used goal.the-decreases-loop-used tie.handed_clauses
-
-abbrev In-Answered : Type 0
-In-Answered = place.Past-After-known_told tie.the-claims tie.handed_pre tie.handed_post goal.the-invariant-loop-used goal.the-decreases-loop-used tie.handed_clauses
-
-abbrev In_default : Type 0
-In_default = place.Past-After-enum_told tie.the-claims tie.handed_pre tie.handed_post goal.the-invariant-loop-used goal.the-decreases-loop-used tie.handed_clauses
-
-abbrev entry : At-loop-used → Start
-entry l = l.before.before.before.before.before
-
-passed : (l : At-loop-used) → (l.loop-used.used ≤ length (entry l).args.input.now) × (l.loop-used.written ≤ length (entry l).args.output.now)
-passed l = (l.loop-used.invariant.0, omega (arith, l.loop-used.invariant.1, l.loop-used.invariant.2))
+longer : (known : Bool) (output : List ℕ) {o : Option Operation} {before after part : List ℕ} {written size : ℕ} → Known known before → PromisesLine o before after (part_from written output) part (Some size)
+    → length part ≡ length (part_from written output) → written ≤ length output → written + size ≤ length output
+longer known output {written = written} is promise kept fits =
+    let lent = some-lent known is in omega (arith, written-within (promise lent.lent lent.is_lent).1 kept, part_length written output)
 
 pub loop-used-init : goal.loop-used-init
 loop-used-init c =
-    let a = c.args in
-    (omega arith, omega arith, refl, refl, refl, c.requires.0, λ l is. begun l a.input.now a.room.now a.output.now is)
-
--- ── the next line ──────────────────────────────────────────────────────────────────────────────
-
-module _ (c : After-answer_next) where
-  abbrev turn-of : At-loop-used
-  turn-of = c.before.before.before.before.before.before
-
-  abbrev rest : List ℕ
-  rest = drop turn-of.loop-used.used (entry turn-of).args.input.now
-
-  abbrev after : List ℕ
-  after = c.answer_next.new.room
-
-  abbrev part : List ℕ
-  part = part_from turn-of.loop-used.written turn-of.loop-used.output
-
-  abbrev part-after : List ℕ
-  part-after = c.answer_next.new.output
-
-  part-kept : length part-after ≡ length part
-  part-kept = omega (arith, c.answer_next.auto)
-
-  module _ (r : Next) (is : c.answer_next.result ≡ r) where
-    found : NextFound rest r
-    found = subst (λ input. NextFound input r) (rest-is turn-of.loop-used.used (entry turn-of).args.input.now) (subst (NextFound _) is c.answer_next.ensures.found)
-
-    promise : PromisesNext rest turn-of.loop-used.room after part part-after r
-    promise l lent =
-        subst (λ input. NextAnswered l input turn-of.loop-used.room after part part-after r) (rest-is turn-of.loop-used.used (entry turn-of).args.input.now)
-        (subst (NextAnswered l (part_from turn-of.loop-used.used (entry turn-of).args.input.now) turn-of.loop-used.room after part part-after) is (c.answer_next.ensures.answered l lent))
-
-abbrev asked : In_default → After-answer_next
-asked c = c.before.before.before.before.before.before.before
+    record { read = omega arith; fits = omega arith; known = c.requires.0; underway = λ l is. begun l c.args.input.now c.args.room.now c.args.output.now is }
 
 pub returns-in_default : goal.returns-in_default
 returns-in_default c =
-    let a = asked c.before in
-    let o = (turn-of a).loop-used in record { batches = λ l is. stopped (after a) (part-after a) (o.invariant.6 l is) o.invariant.2 (promise a next.Stopped c.in_default.is); within = passed (turn-of a) }
-
--- ── answered ───────────────────────────────────────────────────────────────────────────────────
-
-module _ (c : In-Answered) where
-  abbrev answer : After-answer_next
-  answer = c.before.before.before.before.before.before.before
-
-  abbrev end : ℕ
-  end = c.in-Answered.end
-
-  abbrev size : ℕ
-  size = c.in-Answered.size
-
-  first : FirstLine (rest answer) end
-  first = found answer (next.Answered end size) c.in-Answered.is
-
-  promised : PromisesLine (operation_of_line (take end (rest answer))) (turn-of answer).loop-used.room (after answer) (part answer) (part-after answer) (answered.Written size)
-  promised = promise answer (next.Answered end size) c.in-Answered.is
-
-  used-within : (turn-of answer).loop-used.used + (end + 1) ≤ length (entry (turn-of answer)).args.input.now
-  used-within = let o = (turn-of answer).loop-used in omega (arith, first.inside, length-drop o.used (entry (turn-of answer)).args.input.now, o.invariant.0)
-
-  written-fits : (turn-of answer).loop-used.written + size ≤ length (turn-of answer).loop-used.output
-  written-fits =
-      let o = (turn-of answer).loop-used in
-      let lent = some-lent (entry (turn-of answer)).args.known o.invariant.5 in
-      omega (arith, written-within (promised lent.lent lent.is_lent).1 (part-kept answer), part_length o.written o.output, o.invariant.1)
+    let o = c.loop-used in record {
+      batches = λ l is. stopped c.answer_next.new.room c.answer_next.new.output (o.invariant.underway l is) o.auto.output c.in_default.ensures.answered;
+      within = (o.invariant.read, omega (arith, o.invariant.fits, o.auto.output));
+    }
 
 pub loop-used-preserved : goal.loop-used-preserved
 loop-used-preserved c =
-    let a = answer c.before in
-    let o = (turn-of a).loop-used in
-    let known = (entry (turn-of a)).args.known in
-    let left = length o.output - o.written in
-    let kept : length (put o.written left o.output (part-after a)) ≡ length o.output =
-    put-length o.written left o.output (part-after a) (omega (arith, o.invariant.1)) (part-kept a ∙ part_length o.written o.output) in (
-      omega (arith, used-within c.before),
-      omega (arith, written-fits c.before, kept),
-      kept ∙ o.invariant.2,
-      c.room-1.given ∙ o.invariant.3,
-      c.work-1.given ∙ o.invariant.4,
-      stays-known known (operation_of_line (take (end c.before) (rest a))) o.room (after a) (part a) (part-after a) (size c.before) o.invariant.5 (promised c.before),
-      λ l is. turn (after a) (part-after a) (end c.before) (size c.before) (o.invariant.6 l is) (first c.before) (promised c.before),
-    )
-
-pub returns : goal.returns
-returns c = record { batches = λ l is. at-the-end (c.loop-used.invariant.6 l is) c.loop-used-test.false; within = passed c.before.before }
-
-pub shape_of-room-in_default : goal.shape_of-room-in_default
-shape_of-room-in_default c = c.room-1.given ∙ (turn-of (asked c.before)).loop-used.invariant.3
-
-pub shape_of-work-in_default : goal.shape_of-work-in_default
-shape_of-work-in_default c = c.work-1.given ∙ (turn-of (asked c.before)).loop-used.invariant.4
-
-pub shape_of-output-in_default : goal.shape_of-output-in_default
-shape_of-output-in_default c = c.output-1.given.1 ∙ (turn-of (asked c.before)).loop-used.invariant.2
-
-pub overflow_add-used : goal.overflow_add-used
-overflow_add-used c = omega (arith, used-within c.before)
-
-pub overflow_add-used-in-loop-used : goal.overflow_add-used-in-loop-used
-overflow_add-used-in-loop-used c = omega (arith, used-within c.before)
-
-pub overflow_add-written : goal.overflow_add-written
-overflow_add-written c = omega (arith, written-fits c.before)
+    let o = c.loop-used in
+    let part = c.answer_next.new.output in
+    let next = c.in-Some.ensures in
+    let whole : length (put o.written (length o.output - o.written) o.output part) ≡ length o.output =
+    put-length o.written (length o.output - o.written) o.output part (omega (arith, o.invariant.fits)) (c.answer_next.auto.output ∙ part_length o.written o.output) in record {
+      read = further c.args.input.now next.found o.invariant.read;
+      fits = omega (arith, longer c.args.known o.output o.invariant.known next.answered c.answer_next.auto.output o.invariant.fits, whole);
+      known = stays-known c.args.known (operation_of_line (take c.in-Some.answered.end (part_from o.used c.args.input.now))) o.room c.answer_next.new.room (part_from o.written o.output) part c.in-Some.answered.size o.invariant.known next.answered;
+      underway = λ l is. turn c.answer_next.new.room part c.in-Some.answered.end c.in-Some.answered.size (o.invariant.underway l is) next.found next.answered;
+    }
 
 pub loop-used-smaller : goal.loop-used-smaller
-loop-used-smaller c = omega (arith, used-within c.before)
+loop-used-smaller c = omega (arith, further c.args.input.now c.in-Some.ensures.found c.loop-used.invariant.read)
 
-pub shape_of-room : goal.shape_of-room
-shape_of-room c = c.loop-used.invariant.3
+pub returns : goal.returns
+returns c =
+    let o = c.loop-used in record {
+      batches = λ l is. at-the-end (o.invariant.underway l is) c.loop-used-test.false;
+      within = (o.invariant.read, omega (arith, o.invariant.fits, o.auto.output));
+    }
 
-pub shape_of-work : goal.shape_of-work
-shape_of-work c = c.loop-used.invariant.4
+pub overflow_add-used : goal.overflow_add-used
+overflow_add-used c = omega (arith, further c.args.input.now c.in-Some.ensures.found c.loop-used.invariant.read)
 
-pub shape_of-output : goal.shape_of-output
-shape_of-output c = c.loop-used.invariant.2
+pub overflow_add-used-in-loop-used : goal.overflow_add-used-in-loop-used
+overflow_add-used-in-loop-used c = omega (arith, further c.args.input.now c.in-Some.ensures.found c.loop-used.invariant.read)
+
+pub overflow_add-written : goal.overflow_add-written
+overflow_add-written c = omega (arith, longer c.args.known c.loop-used.output c.loop-used.invariant.known c.in-Some.ensures.answered c.answer_next.auto.output c.loop-used.invariant.fits)

@@ -17,9 +17,9 @@ unfolding reply_bytes flat_map bytes_of
 one_byte number = refl
 
 pub finish-requires : goal.finish-requires
-finish-requires c = omega (arith, one_byte 23, c.write_number-size.ensures.size, c.write_number-size.auto, c.if-output-lt-LONGEST_OTHER_LINE.false)
+finish-requires c = omega (arith, one_byte 23, c.write_refusal-size.ensures.size, c.write_refusal-size.auto, c.if-output-lt-LONGEST_OTHER_LINE.false)
 
 pub returns : goal.returns
 returns c room l is_lent =
-    let written = c.write_number-size in
+    let written = c.write_refusal-size in
     (search rules, line-written c.finish.ensures.end c.finish.ensures.line record { writes = written.ensures; lent = is_lent; untouched = λ _. refl })

@@ -1,5 +1,5 @@
 -- `restoring::restore_version` meets its contract: the version is carried as an amount, so no more than M (Versions).
-use mathlib.Core.Path.{◌≡◌, sym, ap, ◌∙◌}
+use mathlib.Core.Path.{sym, ap, ◌∙◌}
 use mathlib.Core.Logic.{inl, inr}
 use mathlib.Core.Option.{some}
 use native.Mathlib.Omega.{arith}

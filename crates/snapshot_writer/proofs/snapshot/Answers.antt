@@ -7,10 +7,10 @@ use borrow.Author.Tests.{not-true, not-false}
 use lib.ListN.{length}
 use Rattle.std.proofs.lemmas.Result.{err_from_is_err_and}
 use Rattle.rules.specs.RoomAndSoundLedger.{Ledger}
-use Rattle.rules.specs.SnapshotsMigrationCertificates.{account_rows, snapshot_of, too_short_for}
-use Rattle.room.specs.Room.{IsRoom, OfRoom}
+use Rattle.rules.specs.SnapshotsMigrationCertificates.{Snapshot, account_rows, snapshot_of, too_short_for}
+use Rattle.room.specs.Room.{OfRoom}
 use Rattle.room.proofs.SoundRoom.{head-is, sized}
-use Rattle.snapshot_writer.proofs.Answering.{roomy, written_out, answers-exhausted, answers-short, answers-written}
+use Rattle.snapshot_writer.proofs.Answering.{roomy, WrittenInto, written_out, answers-exhausted, answers-short, answers-written}
 use Rattle.snapshot_writer.proofs.snapshot.Goals as goal
 
 pub stamp-requires : goal.stamp-requires
@@ -45,7 +45,9 @@ returns c =
     let output = c.args.output.now in
     let rows = c.write_rows-extent in
     let enough : OfRoom room (λ L. too_short_for (length output) (snapshot_of L) ≡ false) = λ L r. not-true _ (sym (c.if-not-has_room.ensures L r)) in
-    let into = λ (L : Ledger) (r : IsRoom room L). written_out (record { version = c.in_ok-head.head.last_version; active = c.load_sizes-sizes.result.live; rows = account_rows L.places }) output rows.new.output c.write_header.new.output rows.result (omega (arith, roomy L (length output) (enough L r))) (rows.ensures L r) c.write_header.ensures in
+    let made : Ledger → Snapshot = λ L. record { version = c.in_ok-head.head.last_version; active = c.load_sizes-sizes.result.live; rows = account_rows L.places } in
+    let into : OfRoom room (λ L. WrittenInto output c.write_header.new.output rows.result.end (made L)) =
+    λ L r. written_out (made L) output rows.new.output c.write_header.new.output rows.result (omega (arith, roomy L (length output) (enough L r))) (rows.ensures L r) c.write_header.ensures in
     record {
       performs = λ L r. answers-written room L r (length output) c.load_head.ensures c.in_ok-head.ensures (enough L r) c.load_sizes-sizes.result c.load_sizes-sizes.ensures _ _ (into L r).0 c.put_head.ensures;
       output = (into c.requires.ledger c.requires.is_room).1;
