@@ -83,14 +83,8 @@ fn to_front(input: &mut [u8], from: usize, end: usize) -> usize
     ensures size { result ≡ end - from }
     ensures front { take result input.new ≡ row (end - from) from input.old }
 {
-    let mut at = from;
-    let mut to = 0;
-    while at < end {
-        input[to] = input[at];
-        to += 1;
-        at += 1;
-    }
-    to
+    input.copy_within(from..end, 0);
+    end - from
 }
 
 // No whole line is held. What is held comes to the front, so that there is room to read on; where it fills the input, it is a line too long to be held.
