@@ -8,19 +8,19 @@ use Rattle.zatovola.proofs.zatovola_answer.Goals as goal
 
 pub returns-then-output-room_for : goal.returns-then-output-room_for
 returns-then-output-room_for c l is_lent =
-    let read = c.read-operation.ensures in
+    let read = c.read-read.ensures in
     let needed = c.room_for.ensures c.args.frame.now read.parts ∙ ap room_for read.operation in
     record { answered = λ room. absurd (omega (arith, room, needed)); too_short = λ _. (refl, refl, refl) }
 
 pub answer-requires : goal.answer-requires
 answer-requires c =
-    let read = c.read-operation.ensures in
+    let read = c.read-read.ensures in
     let needed = c.room_for.ensures c.args.frame.now read.parts in
     (found c.is_sound-known.result c.is_sound-known.ensures, (read.parts, omega (arith, needed)))
 
 pub returns : goal.returns
 returns c l is_lent =
-    let read = c.read-operation.ensures in
+    let read = c.read-read.ensures in
     let needed = c.room_for.ensures c.args.frame.now read.parts ∙ ap room_for read.operation in
     let a = c.args in
     record {
