@@ -40,7 +40,6 @@ module _ {A : Type 0} (carried : A → Value) (before : A) where
       let same : q ≡ reply number [] = λ i. record { number = numbered i; carried = bare i } in
       told-refused number after above ∙ sym same
 
-
   kept-is : (r : Result A Refusal) (number : ℕ) (after : A) → HandedOver r before number after → number ≢ 0 → after ≡ before
   kept-is (Ok x) number after (n, v) other = absurd (other n)
   kept-is (Err d) number after (n, v) other = v

@@ -1,7 +1,6 @@
 -- A refusal of a read, or of what the recorder writes, carries nothing.
 use mathlib.Core.Path.{◌≡◌, refl}
 use mathlib.Core.Logic.{◌≢◌}
-use mathlib.Core.Bool.{Bool, true, false, cond}
 use mathlib.Core.List.{List, []}
 use mathlib.Core.Option.{Option, none, some}
 use Prim.Native.Nat.{ℕ}
@@ -9,7 +8,7 @@ use lib.Dec.{ltb}
 use lib.ListN.{length}
 use Rattle.rules.specs.RoomAndSoundLedger.{M, Name, Account, Ledger, seat_in, committed_total}
 use Rattle.rules.specs.AnswerNumbers.{Reply}
-use Rattle.rules.specs.AccountRules.{Move, refuse, perform, is_too_long, named, on_name, operate, read_rule, read_reserved_rule, read_remaining, read_initial, read_committed, read_reserved, LedgerRead, read_ledger, read_committed_total, read_accounts, read_live, read_last_version, read_committed_since}
+use Rattle.rules.specs.AccountRules.{Move, perform, is_too_long, named, on_name, operate, read_rule, read_reserved_rule, read_remaining, read_initial, read_committed, read_reserved, LedgerRead, read_ledger, read_committed_total, read_accounts, read_live, read_last_version, read_committed_since}
 use Rattle.rules.specs.Frames.{Parts}
 use Rattle.rules.specs.Recorder.{Written, Recording, recording, fitting, record_operation, record_answer}
 use Rattle.rules.proofs.Tests.{by-test}

@@ -35,7 +35,10 @@ pub extern "C" fn zatovola_remaining(room: &[u8], name: &[u8], value: &mut i64) 
     ensures { Reads Amount (λ L. (operate L (read_remaining name.now)).reply)
         room.now value.old result value.new }
 {
-    hand_over(microcents(any_memory_accounts::remaining(room, name)), value)
+    hand_over(
+        microcents(any_memory_accounts::remaining(room, name)),
+        value,
+    )
 }
 
 #[unsafe(no_mangle)]
@@ -51,7 +54,10 @@ pub extern "C" fn zatovola_committed(room: &[u8], name: &[u8], value: &mut i64) 
     ensures { Reads Amount (λ L. (operate L (read_committed name.now)).reply)
         room.now value.old result value.new }
 {
-    hand_over(microcents(any_memory_accounts::committed(room, name)), value)
+    hand_over(
+        microcents(any_memory_accounts::committed(room, name)),
+        value,
+    )
 }
 
 #[unsafe(no_mangle)]
@@ -66,7 +72,10 @@ pub extern "C" fn zatovola_reserved(room: &[u8], name: &[u8], value: &mut i64) -
 pub extern "C" fn zatovola_committed_total(room: &[u8], value: &mut i64) -> u8
     ensures { Reads Amount (λ L. read_ledger L read_committed_total) room.now value.old result value.new }
 {
-    hand_over(microcents(any_memory_accounts::committed_total(room)), value)
+    hand_over(
+        microcents(any_memory_accounts::committed_total(room)),
+        value,
+    )
 }
 
 #[unsafe(no_mangle)]
@@ -94,5 +103,8 @@ pub extern "C" fn zatovola_last_version(room: &[u8], value: &mut u64) -> u8
 pub extern "C" fn zatovola_committed_since(room: &[u8], value: &mut i64) -> u8
     ensures { Reads Amount (λ L. read_ledger L read_committed_since) room.now value.old result value.new }
 {
-    hand_over(microcents(any_memory_accounts::committed_since(room)), value)
+    hand_over(
+        microcents(any_memory_accounts::committed_since(room)),
+        value,
+    )
 }
