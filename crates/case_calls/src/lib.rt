@@ -88,14 +88,10 @@ pub fn read(
         b"initial" => write_amount(answer, any_memory_accounts::initial(memory, name)),
         b"committed" => write_amount(answer, any_memory_accounts::committed(memory, name)),
         b"reserved" => write_amount(answer, any_memory_accounts::reserved(memory, name)),
-        b"committed-total" => {
-            write_amount(answer, any_memory_accounts::committed_total(memory))
-        }
+        b"committed-total" => write_amount(answer, any_memory_accounts::committed_total(memory)),
         b"accounts" => write_read(answer, any_memory_accounts::accounts(memory)),
         b"live" => write_read(answer, any_memory_accounts::live(memory)),
-        b"committed-since" => {
-            write_amount(answer, any_memory_accounts::committed_since(memory))
-        }
+        b"committed-since" => write_amount(answer, any_memory_accounts::committed_since(memory)),
         _ => return None,
     };
     Some(size)

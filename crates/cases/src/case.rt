@@ -241,6 +241,7 @@ fn case(
     lent
 }
 
+// The last line may have no line feed behind it.
 pub fn each(
     rt: &HostRuntime,
     input: &[u8],
@@ -253,21 +254,19 @@ pub fn each(
         supplied: 0,
         output: 0,
     };
-    let mut at = 0;
-    while at < input.len() {
-        let end = text::find(input, at, input.len(), b'\n');
-        let space = text::find(input, at, end, b' ');
-        let rest = end.min(space + 1);
+    for ended in input.split_inclusive(|character| *character == b'\n') {
+        let line = ended.strip_suffix(b"\n").unwrap_or(ended);
+        let space = text::find(line, 0, line.len(), b' ');
+        let rest = line.len().min(space + 1);
         lent = case(
             rt,
-            &input[at..end],
-            &input[at..space],
-            &input[rest..end],
+            line,
+            &line[..space],
+            &line[rest..],
             memory,
             supplied,
             output,
             lent,
         );
-        at = end + 1;
     }
 }
