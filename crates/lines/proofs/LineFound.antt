@@ -1,14 +1,12 @@
 -- A line in the input: the line feed that ends it splits the input there.
-use mathlib.Core.Path.{◌≡◌, sym, subst, ap, ◌∙◌}
-use mathlib.Core.Logic.{◌≢◌}
+use mathlib.Core.Path.{◌≡◌, sym, ap, ◌∙◌}
 use mathlib.Core.List.{List, [], ◌∷◌, ◌++◌}
-use Prim.Native.Nat.{ℕ, suc, ◌+◌, ◌-◌, ◌≤◌, ◌<◌}
+use Prim.Native.Nat.{ℕ, suc, ◌+◌}
 use native.Mathlib.Omega.{arith}
-use lib.ListN.{length, get_or, take, drop, take-append-drop}
-use lib.Seq.{take-suc, take_all, get_or-drop, drop-cons}
+use lib.ListN.{take, drop, take-append-drop}
+use lib.Seq.{take-suc, drop-cons}
 use Rattle.rules.specs.Frames.{line_feed}
-use Rattle.rules.proofs.Lists.{all_more}
-use Rattle.lines.specs.Batching.{IsLine, FirstLine}
+use Rattle.lines.specs.Batching.{FirstLine}
 
 module _ (input : List ℕ) {end : ℕ} (f : FirstLine input end) where
   pub feed-behind : take (end + 1) input ≡ take end input ++ (line_feed ∷ [])

@@ -1,11 +1,11 @@
 -- `lines::answer_lines`: each line answered makes the stretch longer (`turn`), and its answer stands within the output whatever is lent (`longer`).
-use mathlib.Core.Path.{◌≡◌, subst, ◌∙◌}
+use mathlib.Core.Path.{◌≡◌, ◌∙◌}
 use mathlib.Core.Bool.{Bool}
 use mathlib.Core.List.{List}
 use mathlib.Core.Option.{Option}
 use Prim.Native.Nat.{ℕ, ◌+◌, ◌-◌, ◌≤◌}
 use native.Mathlib.Omega.{arith}
-use lib.ListN.{length, take, drop}
+use lib.ListN.{length, take}
 use Rattle.std.specs.Prelude.{Some}
 use Rattle.rules.specs.Frames.{Operation, operation_of_line}
 use Rattle.records.specs.Rows.{put}

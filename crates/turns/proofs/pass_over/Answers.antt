@@ -1,6 +1,6 @@
 -- `turns::pass_over`: what stands in front of the line feed found, or all that was read where there is none, is more of the line that is passed over
 -- (`passed` and `pass_on` of Reading.antt); what stands behind it is held (`behind-feed` of Parts.antt).
-use mathlib.Core.Path.{◌≡◌, sym, subst}
+use mathlib.Core.Path.{sym, subst}
 use mathlib.Core.Bool.{false}
 use mathlib.Core.List.{◌++◌}
 use Prim.Native.Nat.{◌+◌, ◌-◌}

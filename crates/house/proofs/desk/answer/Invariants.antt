@@ -13,7 +13,7 @@ steps_left false from end = end - from + 1
 
 abbrev pub invariant-loop-turn : goal.invariant-loop-turn
 invariant-loop-turn l =
-    (length l.room ≡ length l.initial.room) × (length l.input ≡ length l.initial.input) × (length l.output ≡ length l.initial.output) × Within l.input l.turn.held × (l.turn.done ≡ true → l.turn.held.end < length l.input)
+    Within l.input l.turn.held × (l.turn.done ≡ true → l.turn.held.end < length l.input)
 
 abbrev pub decreases-loop-turn : goal.decreases-loop-turn
 decreases-loop-turn l = steps_left l.turn.done l.turn.held.from l.turn.held.end
