@@ -3,10 +3,13 @@
 #![tactic(auto)]
 
 ghost use Rattle.std.specs.Prelude.{◌≤◌, List, length};
+ghost use Rattle.rules.specs.RoomAndSoundLedger.{longest_name};
 ghost use Rattle.rules.specs.AnswerNumbers.{Value, done, reply_of};
+ghost use Rattle.names.specs.Names.{spelled};
 ghost use Rattle.refusals.specs.Answers.{refusal_of, answer_of, carries_nothing};
 ghost use Rattle.accounts.specs.Answers.{carries_top_up};
 ghost use Rattle.reservations.specs.Answers.{carries_grant, carries_commit, carries_release};
+ghost use Rattle.validation.specs.Judgement.{of_row};
 ghost use Rattle.certificates.specs.Certified.{carries_certificate, carries_proof};
 ghost use Rattle.answer_bytes.specs.Sizes.{longest_other_answer};
 ghost use Rattle.answer_bytes.specs.Writing.{WritesReply};
@@ -18,8 +21,10 @@ use answer_bytes::{
 };
 use big_endian::word_of;
 use certificates::{Certificate, Proof};
+use names::Name;
 use refusals::Refusal;
 use reservations::{Committed, Granted, Released};
+use validation::RowRefusal;
 
 // What an operation hands over when it is done.
 pub trait Carried {
@@ -111,7 +116,28 @@ impl Carried for Proof {
     }
 }
 
-// The table of document 01, "Answer numbers".
+// What is wrong with a row, told with the name that is handed in beside it: what stands past its length is not asked for. 15 carries none.
+pub fn write_row_refusal(output: &mut [u8], name: Name, refusal: RowRefusal) -> usize
+    requires { (longest_other_answer ≤ length output.old) × (name.length ≤ longest_name) }
+    ensures { WritesReply (reply_of (of_row (spelled name) refusal)) output.old output.new result }
+{
+    match refusal {
+        RowRefusal::DuplicateTenant => write_named(output, 11, name),
+        RowRefusal::GhostReservation(reserved) => {
+            write_named_word(output, 12, name, word_of(reserved))
+        }
+        RowRefusal::NegativeLedgerField(field, value) => {
+            write_named_field(output, 13, name, field, word_of(value))
+        }
+        RowRefusal::ConservationViolation(delta) => {
+            write_named_word(output, 14, name, word_of(delta))
+        }
+        RowRefusal::AggregateOverflow => write_number(output, 15),
+    }
+}
+
+// The table of document 01, "Answer numbers". It is written out in each caller, so that a refusal that is known there costs no search for its arm.
+#[inline(always)]
 pub fn write_refusal(output: &mut [u8], refusal: Refusal) -> usize
     requires { longest_other_answer ≤ length output.old }
     ensures { WritesReply (reply_of (refusal_of refusal)) output.old output.new result }

@@ -9,14 +9,24 @@ ghost use Rattle.rules.specs.SnapshotsMigrationCertificates.{bytes_of, number_of
 
 use numbers::Microcents;
 
-// Bit 63, which is 2^63.
+// Bit 63, which is 2^63; and the least amount, which is as far below 0.
 pub const TAG: u64 = rules::M + 1;
 
+pub const LEAST: i64 = -(rules::M as i64) - 1;
+
+// Bytes are joined by `|` and shifts: this compiles to one load of the whole number, turned.
 pub fn read8(bytes: &[u8]) -> u64
     requires { length bytes.now ≡ 8 }
     ensures { result ≡ number_of bytes.now }
 {
-    u64::from_be_bytes(numbers::array_of(bytes))
+    (bytes[7] as u64)
+        | ((bytes[6] as u64) << 8)
+        | ((bytes[5] as u64) << 16)
+        | ((bytes[4] as u64) << 24)
+        | ((bytes[3] as u64) << 32)
+        | ((bytes[2] as u64) << 40)
+        | ((bytes[1] as u64) << 48)
+        | ((bytes[0] as u64) << 56)
 }
 
 pub fn write8(bytes: &mut [u8], number: u64)

@@ -1,8 +1,13 @@
 // What standard output shows: a line of the input and its answer. What cannot be written is left out: the program's stored output shows it.
+ghost use Rattle.std.specs.Prelude.{◌≤◌, length};
+
 use answer_bytes::LONGEST_OTHER_ANSWER;
 use std::io::Write;
 
 const WORD_SIZE: usize = 8;
+
+// How many bytes are shown at a time.
+const PIECE_SIZE: usize = 64;
 
 pub fn text(rt: &HostRuntime, characters: &[u8]) {
     let _ = rt.stdout().write_all(characters);
@@ -17,9 +22,25 @@ pub fn echo(rt: &HostRuntime, line: &[u8]) {
     text(rt, b": ");
 }
 
+// A byte as two digits.
+pub fn byte(rt: &HostRuntime, value: u8) {
+    let mut digits = [value, 0];
+    digits::spell(&mut digits, 1);
+    text(rt, &digits);
+}
+
+// The bytes of one piece are spelled, and then written as one text.
+fn piece(rt: &HostRuntime, values: &[u8])
+    requires { length values.now ≤ 64 }
+{
+    let mut digits = [0u8; 2 * PIECE_SIZE];
+    digits::spell_part(values, &mut digits);
+    text(rt, &digits[..2 * values.len()]);
+}
+
 pub fn bytes(rt: &HostRuntime, values: &[u8]) {
-    for value in values {
-        let _ = print!(rt; "{value:02x}");
+    for values in values.chunks(PIECE_SIZE) {
+        piece(rt, values);
     }
 }
 

@@ -59,7 +59,7 @@ fn snapshot_size(rt: &HostRuntime, size: usize) {
 }
 
 fn snapshot_refused(rt: &HostRuntime, number: u8) {
-    shown::bytes(rt, &[number]);
+    shown::byte(rt, number);
     shown::text(rt, b"\n");
 }
 

@@ -4,7 +4,7 @@
 
 ghost use Rattle.std.specs.Prelude.{◌≤◌, ◌≡◌};
 ghost use Rattle.rules.specs.RoomAndSoundLedger.{M};
-ghost use Rattle.heads.specs.Heads.{drawn_head, stamped_head, rotated_head};
+ghost use Rattle.heads.specs.Heads.{identifier_at, next_after, drawn_head, stamped_head, since_baseline, larger, rotated_head};
 
 use numbers::Identifier;
 use records::Head;
@@ -23,25 +23,56 @@ pub struct Rotated {
     pub head: Head,
 }
 
-// "next id grows by 1", and "the id drawn is the old next id"; at M there is none, and the head stays as it was.
+// Every test stands in the four functions that come first, which are by value: what is then changed in place is a straight line.
+
+// "the id drawn is the old next id", and at M there is none.
 #[tactic(auto, unfolding(rules::specs::RoomAndSoundLedger::M))]
+fn identifier_at(next_id: u64) -> Option<Identifier>
+    ensures { result ≡ identifier_at next_id }
+{
+    if next_id < rules::M {
+        return Some(Identifier(next_id));
+    }
+    None
+}
+
+#[tactic(auto, unfolding(rules::specs::RoomAndSoundLedger::M))]
+fn next_after(next_id: u64) -> u64
+    ensures { result ≡ next_after next_id }
+{
+    if next_id < rules::M {
+        return next_id + 1;
+    }
+    next_id
+}
+
+fn since_baseline(baseline: u64, total: u64) -> u64
+    ensures { result ≡ since_baseline baseline total }
+{
+    total.saturating_sub(baseline)
+}
+
+fn larger(baseline: u64, total: u64) -> u64
+    ensures { result ≡ larger baseline total }
+{
+    baseline.max(total)
+}
+
+// "next id grows by 1", but for M: then there is no id, and the head stays as it was.
 pub fn draw(head: &mut Head) -> Option<Identifier>
     ensures { (result ≡ (drawn_head head.old).id) × (head.new ≡ (drawn_head head.old).head) }
 {
-    if rules::M <= head.next_id {
-        return None;
-    }
-    let id = Identifier(head.next_id);
-    head.next_id += 1;
-    Some(id)
+    let id = identifier_at(head.next_id);
+    head.next_id = next_after(head.next_id);
+    id
 }
 
 // Document 01, Snapshots, certificate of the ledger: what was committed past the baseline, which follows a total only upwards.
 pub fn rotate(head: &mut Head, total: u64) -> u64
     ensures { (result ≡ (rotated_head head.old total).since) × (head.new ≡ (rotated_head head.old total).head) }
 {
-    let since = total.saturating_sub(head.baseline);
-    head.baseline = head.baseline.max(total);
+    let since = since_baseline(head.baseline, total);
+    head.baseline = larger(head.baseline, total);
     since
 }
 
@@ -61,11 +92,17 @@ pub fn after_rotation(mut head: Head, total: u64) -> Rotated
 }
 
 // Document 01, Snapshots, the taking of one: refused at M; else the id after the one drawn, tagged, is the last version.
-pub fn stamp(mut head: Head) -> Result<Head, Refusal>
+pub fn stamp(head: Head) -> Result<Head, Refusal>
     requires { head.next_id ≤ M }
     ensures { result ≡ stamped_head head }
 {
-    draw(&mut head).ok_or(Refusal::AllocatorExhausted)?;
-    head.last_version = big_endian::tagged(head.next_id);
-    Ok(head)
+    let drawn = after_draw(head);
+    let Some(_) = drawn.id else {
+        return Err(Refusal::AllocatorExhausted);
+    };
+    let next = drawn.head;
+    Ok(Head {
+        last_version: big_endian::tagged(next.next_id),
+        ..next
+    })
 }

@@ -16,7 +16,7 @@ use Rattle.rules.specs.AccountRules.{refuse, leave, ensure_rule, top_up_rule, re
 use Rattle.rules.proofs.Tests.{by-test, true-false}
 use Rattle.numbers.specs.Amounts.{positive_of}
 use Rattle.moves.specs.declared.Seat.{Seat}
-use Rattle.moves.specs.Moves.{account_in, account_of, kept_seat, SeatSound}
+use Rattle.moves.specs.Moves.{account_in, account_of, kept, kept_seat, SeatSound}
 
 -- what a callee's answer says of the definition that its contract names
 pub told : {A : Type 0} {r t b : A} → r ≡ t → r ≡ b → t ≡ b
@@ -52,6 +52,21 @@ module _ (s : Seat) where
 pub account-sound : (initial remaining reserved committed limit : ℕ) → remaining + reserved + committed ≡ initial → initial ≤ M → limit ≤ M
     → SeatSound (record { initial = initial; remaining = remaining; reserved = reserved; committed = committed; limit = limit; account = 1 })
 account-sound initial remaining reserved committed limit e h k = record { form = unfold kept_seat in refl; adds_up = (e, h); limit = k }
+
+abbrev pub limited : ℕ → Seat → Seat
+limited l s = record { initial = s.initial; remaining = s.remaining; reserved = s.reserved; committed = s.committed; limit = l; account = s.account }
+
+-- the one form of a seat says of its limit only what it is
+limited-kept : (c : Option Account) (l k : ℕ) → limited k (kept c l) ≡ kept c k
+limited-kept none l k = refl
+limited-kept (some c) l k = refl
+
+pub limit-sound : (s : Seat) (l : ℕ) → SeatSound s → l ≤ M → SeatSound (limited l s)
+limit-sound s l sound h = record {
+  form = unfold kept_seat in sym (limited-kept (account_of s) s.limit l) ∙ ap (limited l) sound.form;
+  adds_up = sound.adds_up;
+  limit = h;
+}
 
 -- a positive amount, asked of a seat with an account: where a top-up and a reserve come to their sums
 pub record Asked (s : Seat) (z : ℤ) (n : ℕ) : Type 0 where

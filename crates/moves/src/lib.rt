@@ -53,7 +53,9 @@ pub fn top_up(seat: Seat, added: u64) -> Result<Seat, Refusal>
     requires { SeatSound seat × (has_account (account_of seat) ≡ true) × (0 < added) }
     ensures { (topping_up_move (pos added) result ≡ top_up_rule (pos added) (account_of seat) seat.limit) × IfOk result SeatSound }
 {
-    let initial = numbers::plus(seat.initial, added).ok_or(Refusal::OverflowOfTopUp)?;
+    let Some(initial) = numbers::plus(seat.initial, added) else {
+        return Err(Refusal::OverflowOfTopUp);
+    };
     Ok(Seat {
         initial,
         remaining: seat.remaining + added,
@@ -67,7 +69,9 @@ pub fn limit(seat: Seat, amount: Microcents) -> Result<Seat, Refusal>
     requires { SeatSound seat }
     ensures { (limiting_move result ≡ limit_rule amount.0 (account_of seat) seat.limit) × IfOk result SeatSound }
 {
-    let limit = numbers::natural_of(amount).ok_or(Refusal::NegativeAmount(amount))?;
+    let Some(limit) = numbers::natural_of(amount) else {
+        return Err(Refusal::NegativeAmount(amount));
+    };
     Ok(Seat { limit, ..seat })
 }
 

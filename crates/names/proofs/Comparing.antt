@@ -4,9 +4,10 @@ use mathlib.Core.Logic.{◌≢◌}
 use mathlib.Core.Bool.{Bool, false}
 use mathlib.Core.List.{List, [], ◌∷◌}
 use Prim.Native.Nat.{Ordering}
-use Prim.Native.Nat.{ℕ, ◌<◌, compare}
+use Prim.Native.Nat.{ℕ, ◌≤◌, ◌<◌, compare}
 use native.Mathlib.Omega.{arith}
-use lib.ListN.{length, get_or}
+use lib.ListN.{length, get_or, drop, drop_of_length-le}
+use lib.Seq.{drop-cons}
 use Rattle.std.specs.Prelude.{IsTrue, EachIndex, ◌↔◌}
 use Rattle.std.specs.Ordering.{nat_cmp, ordering_then}
 use Rattle.std.specs.Cmp.Lexicographic.{slice_cmp}
@@ -42,6 +43,15 @@ slice-order [] [] = refl
 slice-order [] (y ∷ b) = refl
 slice-order (x ∷ a) [] = refl
 slice-order (x ∷ a) (y ∷ b) = then-order (nat_cmp x y) (slice_cmp nat_cmp a b) ∙ rw (byte-order x y, slice-order a b)
+
+-- what `compare` needs of this
+pub ruleset the_order = (slice-order)
+
+-- from an index on, where the first has ended there
+module _ (a b : List ℕ) (i : ℕ) where
+  pub left_ended : length a ≤ i → i < length b → order (drop i a) (drop i b) ≡ Ordering.lt
+  unfolding order
+  left_ended ha hb = rw (drop_of_length-le a ha, drop-cons b i 0 hb)
 
 -- ── the same name ──────────────────────────────────────────────────────────────────────────────
 

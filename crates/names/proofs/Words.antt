@@ -152,7 +152,7 @@ pub record Compared (k before here : ℕ) (p q : Name) : Type 0 where
   pub same : before ≡ here → take (8 * (k + 1)) p.bytes ≡ take (8 * (k + 1)) q.bytes
 
 names-before : (p q : Name) → IsStored p → IsStored q → order p.bytes q.bytes ≡ Ordering.lt → order (spelled p) (spelled q) ≡ Ordering.lt
-names-before p q sp sq = names-order p.bytes q.bytes p.length q.length (sp.width ∙ sym sq.width) sp.clear sq.clear
+names-before p q sp sq = names-order p.bytes q.bytes p.length q.length (sp.width ∙ sym sq.width) (λ i l. sp.clear i (omega arith)) (λ i l. sq.clear i (omega arith))
 
 module _ (p q : Name) (s : IsStored p × IsStored q) where
   pub compared :

@@ -17,6 +17,7 @@ pub struct Name {
 }
 
 // "Names are ordered by bytes, a prefix first." Any bytes compare: a name asked for may be too long to be kept.
+#[tactic(auto, using(crate::proofs::Comparing::the_order))]
 pub fn compare(left: &[u8], right: &[u8]) -> Ordering
     ensures { ordering_of result ≡ order left.now right.now }
 {

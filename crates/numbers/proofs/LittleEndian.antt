@@ -1,14 +1,18 @@
--- Laws of little-endian numbers: there and back over any size, and as std writes and reads them.
+-- Laws of little-endian numbers: there and back over any size, as code reads them that joins their bytes, and as std writes and reads them.
 use mathlib.Core.Path.{◌≡◌, refl, ◌∙◌, ap, sym}
 use mathlib.Core.List.{List, [], ◌∷◌}
-use Prim.Native.Nat.{ℕ, zero, suc, ◌+◌, ◌*◌, ◌/◌, ◌%◌, ◌^◌, ◌<◌}
-use native.Mathlib.Nat.{pow-suc, mod-lt, div-one, div-lt_iff_lt-mul, div-div-eq-div-mul}
+use Prim.Native.Nat.{ℕ, zero, suc, ◌+◌, ◌*◌, ◌/◌, ◌%◌, ◌^◌, ◌≤◌, ◌<◌}
+use native.Mathlib.Nat.{add_comm, mul_comm, mul_assoc, mul_left_comm, mul-add, pow-suc, mod-lt, mod-eq_of_lt, div-one, div-lt_iff_lt-mul, div-div-eq-div-mul}
 use native.Mathlib.Omega.{arith}
-use lib.ListN.{length}
+use lib.Arith.{digits_lt}
+use lib.Bits.{bit_or, or_shifted_r}
+use lib.Pow.{pow-add, pow_mono}
+use lib.ListN.{length, get_or}
 use Rattle.std.specs.Int.{byte_at, bytes_low_first}
 use Rattle.rules.specs.Lists.{All}
 use Rattle.rules.specs.RoomAndSoundLedger.{IsByte}
 use Rattle.numbers.specs.LittleEndian.{little_number, little_bytes}
+use Rattle.numbers.proofs.Bytes.{elements, elements-are}
 
 -- ── there and back ─────────────────────────────────────────────────────────────────────────────
 
@@ -41,6 +45,35 @@ little-bytes (b ∷ bs) (h, k) =
     let m : (b + 256 * little_number bs) % 256 ≡ b = omega arith in
     let d : (b + 256 * little_number bs) / 256 ≡ little_number bs = omega arith in
     rw (m, d, little-bytes bs k)
+
+-- ── as code reads: each further byte is shifted and joined ─────────────────────────────────────
+
+abbrev joined : (shift low : ℕ) → List ℕ → ℕ
+joined shift low [] = low
+joined shift low (b ∷ bs) = joined (shift + 8) (bit_or low (b * 2 ^ shift % 2 ^ 64)) bs
+
+regroup : (p q b low rest : ℕ) → q ≡ 2 ^ 8 * p → b * p + low + q * rest ≡ low + p * (b + 256 * rest)
+regroup p q b low rest e = rw (e, mul-add, mul_comm b p, mul_assoc) (omega (arith, mul_left_comm p 256 rest))
+
+joined_is : (shift low : ℕ) (bs : List ℕ) → All IsByte bs → low < 2 ^ shift → shift + 8 * length bs ≤ 64 → joined shift low bs ≡ low + 2 ^ shift * little_number bs
+unfolding little_number
+joined_is shift low [] h l w = omega arith
+joined_is shift low (b ∷ bs) (h, k) l w =
+    let p : 2 ^ (shift + 8) ≡ 2 ^ 8 * 2 ^ shift = ap (λ e. 2 ^ e) (add_comm shift 8) ∙ pow-add 2 8 shift in
+    let below : b * 2 ^ shift + low < 2 ^ (shift + 8) = rw p (digits_lt h l) in
+    let end : shift + 8 ≤ 64 = omega arith in
+    let room : 2 ^ (shift + 8) ≤ 2 ^ 64 = pow_mono end in
+    let step : bit_or low (b * 2 ^ shift % 2 ^ 64) ≡ b * 2 ^ shift + low =
+    ap (λ x. bit_or low x) (mod-eq_of_lt (omega arith)) ∙ or_shifted_r b shift low l in
+    ap (λ x. joined (shift + 8) x bs) step
+    ∙ joined_is (shift + 8) (b * 2 ^ shift + low) bs k below (omega arith)
+    ∙ regroup (2 ^ shift) (2 ^ (shift + 8)) b low (little_number bs) p
+
+pub read_number : (size : ℕ) (w : List ℕ) → All IsByte w → length w ≡ suc size → size < 8 → joined 8 (get_or w 0 0) (elements 1 size w) ≡ little_number w
+unfolding little_number
+read_number size [] h l k = absurd (omega arith)
+read_number size (b ∷ bs) (h, h') l k =
+    ap (joined 8 b) (elements-are 1 size (b ∷ bs) (omega arith)) ∙ joined_is 8 b bs h' h (omega arith)
 
 -- ── as std writes: each byte by a division of its own ──────────────────────────────────────────
 

@@ -36,6 +36,15 @@ no_row code h = first-none (λ (a : Answers). eqb code a.code) answer_table
 pub no-forms : (code : ℕ) → (1 ≤ code → 14 < code) → forms_at code ≡ []
 no-forms code h = ap forms_in (no_row code h)
 
+-- what a match over the numbers 1 to k leaves
+abbrev NoneOf : (n k : ℕ) → Type 0
+NoneOf n zero = Unit {0}
+NoneOf n (suc k) = NoneOf n k × (n ≡ suc k → ⊥)
+
+pub above : (n k : ℕ) → NoneOf n k → 1 ≤ n → k < n
+above n zero h low = low
+above n (suc k) (h, other) low = let below : k < n = above n k h low in omega arith
+
 -- no answer has a number above 24
 numbers-end : All (λ (a : Answers). All (λ (r : Reply). r.number ≤ 24) a.forms) answer_table
 unfolding answer_table

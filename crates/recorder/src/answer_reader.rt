@@ -220,8 +220,18 @@ fn read_carried(shape: Shape, bytes: &[u8]) -> Option<Values>
 fn store(number: u8, values: Values, words: &mut [u64; MOST_WORDS])
     ensures { words.new ≡ number ∷ values }
 {
-    words[0] = number as u64;
-    words[1..].copy_from_slice(&values);
+    let [first, second, third, fourth, fifth, sixth, seventh, eighth] = values;
+    *words = [
+        number as u64,
+        first,
+        second,
+        third,
+        fourth,
+        fifth,
+        sixth,
+        seventh,
+        eighth,
+    ];
 }
 
 // The words are stored once, at the end: bytes that are no answer leave them as they were.

@@ -176,6 +176,8 @@ fn carried(number: u64) -> Shape
     }
 }
 
+// Put in line: both callers ask for one shape, and the call took longer than the look-up.
+#[inline(always)]
 pub fn shape_of(code: u8, number: u64) -> Option<Shape>
     ensures { kinds_behind result ≡ kinds_in (form_of code number) }
 {

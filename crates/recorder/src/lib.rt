@@ -19,7 +19,7 @@ pub const MOST_WORDS: usize = 1 + 8;
 use refusals::Refusal;
 
 // How bytes are put out: those that were put together, and behind them those that were lent.
-trait Text {
+pub trait Text {
     ghost text: { List ℕ → List ℕ };
 
     fn put(head: &[u8], tail: &[u8], output: &mut [u8]) -> Result<usize, Refusal>
@@ -28,10 +28,10 @@ trait Text {
 }
 
 // Two digits for each byte.
-struct Line;
+pub struct Line;
 
 // The bytes as they are.
-struct Bytes;
+pub struct Bytes;
 
 impl Text for Line {
     ghost text = { line_of_bytes };

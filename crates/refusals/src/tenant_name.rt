@@ -8,7 +8,7 @@ use names::Name;
 #[derive(Clone, Copy)]
 pub struct TenantName {
     pub name: Name,
-    ghost stored: { IsStored name },
+    pub ghost stored: { IsStored name },
 }
 
 // The empty name: 13 of a snapshot's version is of no row.

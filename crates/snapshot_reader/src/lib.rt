@@ -127,10 +127,17 @@ pub fn read_row(bytes: &[u8], at: usize) -> StandingRow
     }
 }
 
-// 19 of a supplied snapshot (document 01, "Frames"): a name that no place could hold. One pass over the rows.
+// 19 of a supplied snapshot (document 01, "Frames"): a name that no place could hold. One pass over the rows, up to the first such name.
 pub fn has_long_name(bytes: &[u8]) -> bool
     requires { IsSnapshot bytes.now }
     ensures { OfSnapshot bytes.now (λ s. result ≡ has_long_name s.rows) }
 {
-    check(bytes).is_err()
+    let mut at = rules::SNAPSHOT_HEADER;
+    while at < bytes.len() {
+        if LONGEST_NAME < bytes[at] {
+            return true;
+        }
+        at = name_end(bytes, at) + rules::ROW_AMOUNTS;
+    }
+    false
 }

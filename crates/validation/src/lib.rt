@@ -17,7 +17,7 @@ use refusals::{Refusal, TenantName};
 
 // What is wrong with a row: a refusal that is yet without the row's name.
 #[derive(Clone, Copy)]
-enum RowRefusal {
+pub enum RowRefusal {
     DuplicateTenant,
     GhostReservation(Microcents),
     NegativeLedgerField(u8, Microcents),

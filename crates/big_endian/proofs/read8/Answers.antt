@@ -1,11 +1,12 @@
--- `big_endian::read8` meets its contract: what std's `from_be_bytes` reads is written back as the bytes, and so is their number (BigEndian).
+-- `big_endian::read8` meets its contract: the bytes joined are the little-endian number of the bytes backwards, by the one law that serves every size.
+use mathlib.Core.Path.{◌∙◌}
 use native.Mathlib.Omega.{arith}
-use Rattle.std.proofs.lemmas.Nat.{be_bytes_8}
-use Rattle.big_endian.proofs.BigEndian.{read}
+use Rattle.numbers.proofs.LittleEndian.{read_number}
+use Rattle.big_endian.proofs.BigEndian.{backwards, backwards-length, backwards-fit, backwards-number}
 use Rattle.big_endian.proofs.read8.Goals as goal
 
 pub returns : goal.returns
 returns c =
     let bytes = c.args.bytes.now in
-    let n = c.from_be_bytes.result in
-    read 8 n bytes (omega arith) (be_bytes_8 bytes n c.requires (λ i. (c.type_inv.bytes i).fits) (cc))
+    let known = c.type_inv.bytes in
+    read_number 7 (backwards 8 bytes) (backwards-fit bytes known 8) (backwards-length 8 bytes) (omega arith) ∙ backwards-number bytes known 8 c.requires

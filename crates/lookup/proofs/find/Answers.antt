@@ -1,4 +1,5 @@
--- `lookup::find` meets its contract: what is found among the numbers of the places in use is the first place that spells the name.
+-- `lookup::find` meets its contract: what is found among the numbers of the places in use is the first place that spells the name. That it is
+-- answered is left to `search`, through whatever step follows it: an edit that puts one there is refused for its value alone.
 use mathlib.Core.Path.{◌≡◌, sym, ap, ◌∙◌}
 use mathlib.Core.Bool.{Bool, true, false}
 use mathlib.Core.List.{List}
@@ -41,5 +42,7 @@ pub returns : goal.returns
 returns c =
     let xs = c.args.room.now in
     let a = c.args.part.now in
+    let found =
     first-found xs c.requires.sized a c.load_sizes-sizes.result.used (ap (λ s. s.used) c.load_sizes-sizes.ensures) c.find.result
-    (first_from_Range _ _ _ c.find.result (λ i. spelled-at xs a i ≡ true) (λ i. spelled-at xs a i ≡ false) c.find.ensures.ran (λ x q k. search rules) (λ x q k. search rules))
+    (first_from_Range _ _ _ c.find.result (λ i. spelled-at xs a i ≡ true) (λ i. spelled-at xs a i ≡ false) c.find.ensures.ran (λ x q k. search rules) (λ x q k. search rules)) in
+    search (rules, found)
