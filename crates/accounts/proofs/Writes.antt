@@ -1,4 +1,5 @@
--- When a rule writes a seat: what it then says of the account that its airline had. And what a rule by value decides, of the amount that was asked for.
+-- When a rule writes a seat: what it then says of the account that its airline had. And what a rule by value decides, of the amount that was asked for, and
+-- which refusal is left to it.
 use mathlib.Core.Path.{◌≡◌, refl, sym, subst}
 use mathlib.Core.Bool.{true}
 use mathlib.Core.List.{List}
@@ -7,8 +8,9 @@ use Prim.Native.Nat.{ℕ, zero, suc, ◌+◌}
 use lib.Dec.{ltb}
 use lib.IntN.{ℤ, pos, negsuc}
 use Rattle.std.specs.Prelude.{Option as Answer, Some, Result}
-use Rattle.rules.specs.RoomAndSoundLedger.{M, Account, Seat as RulesSeat, seat, is_vacant}
-use Rattle.rules.specs.AccountRules.{Move, write, ensure_rule, top_up_rule, limit_rule}
+use Rattle.rules.specs.RoomAndSoundLedger.{M, Account, Seat as RulesSeat, seat, is_vacant, has_account}
+use Rattle.rules.specs.AnswerNumbers.{NegativeAmount, OverflowOfTopUp, Refusal as RulesRefusal}
+use Rattle.rules.specs.AccountRules.{Move, refuse, write, ensure_rule, top_up_rule, limit_rule}
 use Rattle.rules.proofs.Tests.{by-test}
 use Rattle.refusals.specs.declared.Refusal.{Refusal}
 use Rattle.numbers.specs.Amounts.{natural_of, positive_of}
@@ -49,3 +51,18 @@ ensure-decides z n c l r e q = rw (natural-some z n (sym e)) q
 
 pub top-up-decides : (z : ℤ) (n : ℕ) (c : Option Account) (l : ℕ) (r : Result Seat Refusal) → Some n ≡ positive_of z → topping_up_move (pos n) r ≡ top_up_rule (pos n) c l → topping_up_move z r ≡ top_up_rule z c l
 top-up-decides z n c l r e q = rw (positive-is z n (sym e)).0 q
+
+-- ── where the rule refuses, by the one refusal that is left ────────────────────────────────────
+
+-- a positive amount, of a name with an account
+pub top-up-overflows : (z : ℤ) (n : ℕ) (c : Option Account) (l : ℕ) (e : RulesRefusal) → Some n ≡ positive_of z → has_account c ≡ true → refuse e ≡ top_up_rule z c l → refuse OverflowOfTopUp ≡ top_up_rule z c l
+unfolding top_up_rule
+top-up-overflows (negsuc m) n c l e p h q = cc
+top-up-overflows (pos zero) n c l e p h q = cc
+top-up-overflows (pos (suc m)) n none l e p h q = cc
+top-up-overflows (pos (suc m)) n (some c) l e p h q = by-test (λ r. refuse e ≡ r → refuse OverflowOfTopUp ≡ r) (ltb M (c.initial + suc m)) (λ _ _. refl) (λ _ r. cc) q
+
+pub limit-negative : (z : ℤ) (c : Option Account) (l : ℕ) (e : RulesRefusal) → refuse e ≡ limit_rule z c l → refuse (NegativeAmount z) ≡ limit_rule z c l
+unfolding limit_rule
+limit-negative (negsuc n) c l e q = refl
+limit-negative (pos n) c l e q = cc

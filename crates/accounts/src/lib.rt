@@ -48,10 +48,12 @@ pub fn top_up(room: &mut [u8], part: &[u8], amount: Microcents) -> Result<Topped
     let Some(added) = numbers::positive_of(amount) else {
         return Err(Refusal::InvalidAmount);
     };
-    if !moves::has_account(seat) {
+    let true = moves::has_account(seat) else {
         return Err(Refusal::MissingTenant);
-    }
-    let grown = moves::top_up(seat, added)?;
+    };
+    let Ok(grown) = moves::top_up(seat, added) else {
+        return Err(Refusal::OverflowOfTopUp);
+    };
     seats::write_seat(room, part, found, grown)?;
     Ok(ToppedUp {
         amount,
@@ -69,6 +71,8 @@ pub fn limit(room: &mut [u8], part: &[u8], amount: Microcents) -> Result<(), Ref
     }
     let found = lookup::find(room, part);
     let seat = seats::seat_at(room, found);
-    let changed = moves::limit(seat, amount)?;
+    let Ok(changed) = moves::limit(seat, amount) else {
+        return Err(Refusal::NegativeAmount(amount));
+    };
     seats::write_seat(room, part, found, changed)
 }

@@ -62,8 +62,8 @@ module _ (xs : List ℕ) (L : Ledger) (room : IsRoom xs L) where
     stamped-here : {r : Result Head Refusal} → r ≡ stamped_head h → stamped_head (head_in L) ≡ r
     stamped-here is = sym (is ∙ ap stamped_head is-head)
 
-    pub exhausted : (e : Refusal) → Err e ≡ stamped_head h → Err e ≡ summarized_of L
-    exhausted e is = by-test (λ t. t ≡ Err e → Err e ≡ summarized_of L) (next_id_is_m L) (λ last q. let is : e ≡ AllocatorExhausted = cc in ap Err is ∙ summarized-is L true last) (λ _ q. cc) (stamped-here is)
+    pub exhausted : {e : Refusal} → Err e ≡ stamped_head h → Err AllocatorExhausted ≡ summarized_of L
+    exhausted {e} is = by-test (λ t. t ≡ Err e → Err AllocatorExhausted ≡ summarized_of L) (next_id_is_m L) (λ last _. summarized-is L true last) (λ _ q. cc) (stamped-here is)
 
     pub taken : (g : Head) → Ok g ≡ stamped_head h → (s : Summary) → ((g ≡ head_in (after_snapshot L)) → s ≡ summary_of L) → Ok s ≡ summarized_of L
     taken g is s same = by-test (λ t. t ≡ Ok g → Ok s ≡ summarized_of L) (next_id_is_m L) (λ _ e. cc) (λ not_last e. ap Ok (same cc) ∙ summarized-is L false not_last) (stamped-here is)
@@ -76,8 +76,8 @@ pub record Taking (L : Ledger) (s : Summary) : Type 0 where
   pub summary : s ≡ summary_of L
 
 module _ (L : Ledger) where
-  pub told-exhausted : (e : Refusal) → Err e ≡ summarized_of L → (next_id_is_m L ≡ true) × (e ≡ AllocatorExhausted)
-  told-exhausted e is = by-test (λ t. t ≡ Err e → (next_id_is_m L ≡ true) × (e ≡ AllocatorExhausted)) (next_id_is_m L) (λ last e. (last, cc)) (λ _ e. cc) (sym is)
+  pub told-exhausted : {e : Refusal} → Err e ≡ summarized_of L → next_id_is_m L ≡ true
+  told-exhausted {e} is = by-test (λ t. t ≡ Err e → next_id_is_m L ≡ true) (next_id_is_m L) (λ last _. last) (λ _ e. cc) (sym is)
 
   pub told-taken : (s : Summary) → Ok s ≡ summarized_of L → Taking L s
   told-taken s is = by-test (λ t. t ≡ Ok s → Taking L s) (next_id_is_m L) (λ _ e. cc) (λ not_last e. record { not_last = not_last; summary = cc }) (sym is)

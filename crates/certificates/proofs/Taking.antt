@@ -23,9 +23,6 @@ use Rattle.room.specs.Room.{contents_in, IsRoom, Performed}
 use Rattle.certificates.specs.Certified.{carries_proof, totals_of, rotation_of, summary_of}
 use Rattle.certificates.specs.declared.Summary.{Summary}
 use Rattle.certificates.specs.declared.Totals.{Totals}
-use Rattle.refusals.specs.declared.Refusal.{Refusal}
-use Rattle.refusals.specs.declared.Refusal.TheVariants as refusal
-use Rattle.refusals.specs.Answers.{refusal_of}
 use Rattle.certificates.proofs.BothTotals.{Fitting}
 
 -- ── the outcomes ───────────────────────────────────────────────────────────────────────────────
@@ -94,11 +91,11 @@ module _ (L : Ledger) (not_last : next_id_is_m L ≡ false) where
 
 module _ (xs : List ℕ) (L : Ledger) (room : IsRoom xs L) (f : Ledger → Outcome) where
   -- no id is left to draw
-  pub stays : (o : Outcome) → f L ≡ taking_snapshot L o → (e : Refusal) → (next_id_is_m L ≡ true) × (e ≡ refusal.AllocatorExhausted) → Performed f L (reply_of (refusal_of e)) xs
+  pub stays : (o : Outcome) → f L ≡ taking_snapshot L o → next_id_is_m L ≡ true → Performed f L (reply_of AllocatorExhausted) xs
   unfolding taking_snapshot
-  stays o taking e (last, is) =
+  stays o taking last =
       let q : f L ≡ refused AllocatorExhausted L = taking ∙ (rw last) in
-      record { answer = ap (λ e. reply_of (refusal_of e)) is ∙ sym (ap (λ o. o.reply) q); room = subst (IsRoom xs) (sym (ap (λ o. o.ledger) q)) room }
+      record { answer = sym (ap (λ o. o.reply) q); room = subst (IsRoom xs) (sym (ap (λ o. o.ledger) q)) room }
 
   -- another head in the room
   pub becomes : Sound (f L).ledger → (r s : Reply) (g h : Head) → f L ≡ outcome s (headed h L) → r ≡ s → g ≡ h

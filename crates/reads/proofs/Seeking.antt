@@ -4,6 +4,7 @@ use mathlib.Core.Bool.{cond}
 use mathlib.Core.List.{List, [], ◌∷◌}
 use mathlib.Core.Option.{Option, none, some}
 use Prim.Native.Nat.{ℕ, ◌≤◌}
+use native.Mathlib.Omega.{arith}
 use borrow.Author.Tests.{le-ltb}
 use lib.Dec.{eqb}
 use lib.IntN.{pos}
@@ -30,6 +31,10 @@ use Rattle.reads.specs.Answers.{sought, with_account}
 abbrev tells : (Seat → ℕ) → Seat → List Value
 tells of s = Amount (pos (of s)) ∷ []
 
+-- the amount may be taken of the seat before this is tested for an account
+pub taken-before : (of : Seat → ℕ) (s : Seat) → answer_of (λ _. tells of s) (with_account (Ok s)) ≡ answer_of (tells of) (with_account (Ok s))
+taken-before of s = by_bool (λ b. answer_of {A = Seat} (λ _. tells of s) (cond b (Err MissingTenant) (Ok s)) ≡ answer_of (tells of) (cond b (Err MissingTenant) (Ok s))) (eqb s.account 0) (λ _. refl) (λ _. refl)
+
 module _ (L : Ledger) (a : Name) where
   -- ── the look-up ──────────────────────────────────────────────────────────────────────────────
 
@@ -39,14 +44,21 @@ module _ (L : Ledger) (a : Name) where
       seat_is ∙ ap (λ f. seat_found f (used_places (contents_of xs))) found_is ∙ ap (λ ps. seat_found (place_of_name a ps) ps) (places-are xs L room) ∙ seat-found a L.places in
       rw (le-ltb longest_name (length a) short) (ap Ok is)
 
+  -- no seat is sought of a name that is too long alone
+  pub sought-long : (e : Refusal) → Err e ≡ sought L a → Err NameTooLong ≡ sought L a
+  sought-long e =
+      let seat = kept_seat (seat_in a L.places) in
+      by_bool (λ b. Err e ≡ cond b (Err NameTooLong) (Ok seat) → Err NameTooLong ≡ cond b (Err NameTooLong) (Ok seat)) (is_too_long a)
+      (λ _ _. refl) (λ _ is. absurd (let z : ◌≡◌ {A = ℕ} 0 1 = cc in omega arith))
+
   -- ── what is read ─────────────────────────────────────────────────────────────────────────────
 
   -- an amount of an account
-  pub read-account : (of : Account → ℕ) (r : Result Seat Refusal) → r ≡ with_account (sought L a) → answer_of (tells (λ s. of (account_in s))) r ≡ (on_name L a (read_rule of)).reply
+  pub read-account : (of : Account → ℕ) (r : Result Seat Refusal) → r ≡ sought L a → answer_of (tells (λ s. of (account_in s))) (with_account r) ≡ (on_name L a (read_rule of)).reply
   unfolding on_name read_rule perform kept_seat
   read-account of r is =
       let s = seat_in a L.places in
-      ap (answer_of (tells (λ s. of (account_in s)))) is
+      ap (λ r. answer_of (tells (λ s. of (account_in s))) (with_account r)) is
       ∙ by_bool (λ b. answer_of (tells (λ s. of (account_in s))) (with_account (cond b (Err NameTooLong) (Ok (kept_seat s)))) ≡ (perform L a (cond b (refuse rules.NameTooLong) (read_rule of s.account s.limit))).reply) (is_too_long a)
       (λ _. refl) (λ _. of-kept s.account s.limit)
     where
@@ -69,10 +81,6 @@ module _ (L : Ledger) (a : Name) where
 
 -- ── amounts ────────────────────────────────────────────────────────────────────────────────────
 
-with_account-small : (r : Result Seat Refusal) → IfOk r Small → IfOk (with_account r) Small
-with_account-small (Ok s) h = by_bool (λ b. IfOk {E = Refusal} (cond b (Err MissingTenant) (Ok s)) Small) (eqb s.account 0) (λ _. tt) (λ _. h)
-with_account-small (Err e) h = tt
-
 module _ (xs : List ℕ) (sound : SoundRoom xs) (a : Name) (s : Seat) where
   abbrev L : Ledger
   L = sound.ledger
@@ -84,6 +92,3 @@ module _ (xs : List ℕ) (sound : SoundRoom xs) (a : Name) (s : Seat) where
 
   pub sought-small : OfRoom xs (λ L. Ok s ≡ sought L a) → Small s
   sought-small is = subst (λ r. IfOk r Small) (sym (is L sound.is_room)) small
-
-  pub account-small : OfRoom xs (λ L. Ok s ≡ with_account (sought L a)) → Small s
-  account-small is = subst (λ r. IfOk r Small) (sym (is L sound.is_room)) (with_account-small (sought L a) small)

@@ -10,7 +10,7 @@ use borrow.Author.Tests.{eq-eqb, ne_eqb, lt-ltb, le-ltb, ltb-true, ltb-false}
 use lib.Dec.{ltb, eqb}
 use lib.IntN.{pos}
 use lib.ListN.{length}
-use Rattle.std.specs.Prelude.{Option as Total, Some, None, Result, Ok, ok_or, unwrap_or}
+use Rattle.std.specs.Prelude.{Option as Total, Some, None, ok_or, unwrap_or}
 use Rattle.rules.specs.Lists.{sum, keep}
 use Rattle.rules.specs.RoomAndSoundLedger.{M, Account, Place as RulesPlace, Ledger, has_account, committed_of, committed_at, committed_total}
 use Rattle.rules.specs.AnswerNumbers.{Amount, Count, Version, done, reply_of}
@@ -25,7 +25,6 @@ use Rattle.records.specs.declared.Place.{Place}
 use Rattle.records.specs.declared.Head.{Head}
 use Rattle.records.specs.declared.Sizes.{Sizes}
 use Rattle.refusals.specs.Answers.{answer_of}
-use Rattle.refusals.specs.declared.Refusal.{Refusal}
 use Rattle.refusals.specs.declared.Refusal.TheVariants.{AggregateOverflow}
 use Rattle.room.specs.Room.{place_record, IsRoom, SoundRoom, OfRoom}
 use Rattle.room.specs.Contents.{Sized}
@@ -75,8 +74,8 @@ keep-counts (p ∷ ps) = by_bool (λ b. cond b 1 0 + sum (λ q. cond (is_account
 -- ── a total that may be above M ────────────────────────────────────────────────────────────────
 
 module _ (t : ℕ) where
-  pub summed-above : M < t → None ≡ summed t
-  summed-above h = rw (lt-ltb M t h)
+  pub summed-above : (o : Total ℕ) → o ≡ None → M < t → o ≡ summed t
+  summed-above o e h = rw (lt-ltb M t h) e
 
   pub summed-of : (n : ℕ) → n ≡ t → n ≤ M → Some n ≡ summed t
   summed-of n e h = rw (le-ltb M t (omega arith)) (ap Some e)
@@ -97,10 +96,10 @@ module _ (L : Ledger) (o : Total ℕ) (is : o ≡ summed (committed_total L.plac
   abbrev total : ℕ
   total = committed_total L.places
 
-  pub total-reads : (r : Result ℕ Refusal) → r ≡ ok_or o AggregateOverflow → answer_of (λ n. Amount (pos n) ∷ []) r ≡ read_ledger L read_committed_total
+  pub total-reads : answer_of (λ n. Amount (pos n) ∷ []) (ok_or o AggregateOverflow) ≡ read_ledger L read_committed_total
   unfolding read_ledger
-  total-reads r e =
-      ap (answer_of (λ n. Amount (pos n) ∷ [])) (e ∙ ap (λ o. ok_or o AggregateOverflow) is)
+  total-reads =
+      ap (λ o. answer_of (λ n. Amount (pos n) ∷ []) (ok_or o AggregateOverflow)) is
       ∙ by_bool (λ b. answer_of (λ n. Amount (pos n) ∷ []) (ok_or (cond b None (Some total)) AggregateOverflow) ≡ cond b (reply_of rules.AggregateOverflow) (done (Amount (pos total) ∷ []))) (ltb M total)
       (λ _. refl) (λ _. refl)
 
@@ -158,14 +157,7 @@ module _ (xs : List ℕ) (L : Ledger) (room : IsRoom xs L) where
     unfolding read_ledger
     since-reads = λ i. done (Amount (pos (total-is i - baseline-is i)) ∷ [])
 
--- what the total asks of the subtraction, and of the amount told
+-- what the subtraction asks of the total
 module _ (xs : List ℕ) (sound : SoundRoom xs) (o : Total ℕ) (is : OfRoom xs (λ L. o ≡ summed (committed_total L.places))) where
-  pub total-small : (n : ℕ) → Ok n ≡ ok_or o AggregateOverflow → n ≤ M
-  total-small n e =
-      by-test (λ s. Ok n ≡ ok_or s AggregateOverflow → n ≤ M) (ltb M (committed_total sound.ledger.places))
-      (λ _ e. absurd (let z : ◌≡◌ {A = ℕ} 0 1 = cc in omega arith))
-      (λ h e. let q : n ≡ committed_total sound.ledger.places = cc in omega (arith, ltb-false M (committed_total sound.ledger.places) h))
-      (e ∙ ap (λ o. ok_or o AggregateOverflow) (is sound.ledger sound.is_room))
-
   pub since-within : (h : Head) → h ≡ head_of xs → (n : ℕ) → n ≡ unwrap_or o M → (h.baseline ≤ n) × (n ≤ M)
   since-within = within xs sound.ledger sound.is_room o (is sound.ledger sound.is_room)

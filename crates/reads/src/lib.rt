@@ -2,11 +2,11 @@
 
 #![tactic(auto)]
 
-ghost use Rattle.std.specs.Prelude.{◌≡◌};
-ghost use Rattle.rules.specs.RoomAndSoundLedger.{committed_total};
+ghost use Rattle.std.specs.Prelude.{◌≤◌, ◌≡◌, pos, [], ◌∷◌, Ok};
+ghost use Rattle.rules.specs.RoomAndSoundLedger.{M, committed_total};
 ghost use Rattle.rules.specs.AccountRules.{read_remaining, read_initial, read_committed, read_reserved, operate, read_committed_total, read_accounts, read_live, read_last_version, read_committed_since, read_ledger};
 ghost use Rattle.room.specs.Room.{SoundRoom, OfRoom};
-ghost use Rattle.rules.specs.AnswerNumbers.{done};
+ghost use Rattle.rules.specs.AnswerNumbers.{Amount, done};
 ghost use Rattle.refusals.specs.Answers.{answer_of, carries_amount, carries_count, carries_version};
 ghost use Rattle.reads.specs.Answers.{sought, with_account, summed};
 
@@ -27,39 +27,44 @@ fn seek(room: &[u8], part: &[u8]) -> Result<Seat, Refusal>
 }
 
 // Document 01, Account rules, reads: without an account three of the four amounts are refused with 3.
-fn seek_account(room: &[u8], part: &[u8]) -> Result<Seat, Refusal>
-    requires { SoundRoom room.now }
-    ensures { OfRoom room.now (λ L. result ≡ with_account (sought L part.now)) }
+fn of_account(seat: Seat, amount: u64) -> Result<Microcents, Refusal>
+    requires { amount ≤ M }
+    ensures { answer_of carries_amount result ≡ answer_of (λ _. Amount (pos amount) ∷ []) (with_account (Ok seat)) }
 {
-    let seat = seek(room, part)?;
     if seat.account == 0 {
         return Err(Refusal::MissingTenant);
     }
-    Ok(seat)
+    Ok(numbers::amount(amount))
 }
 
 pub fn remaining(room: &[u8], part: &[u8]) -> Result<Microcents, Refusal>
     requires { SoundRoom room.now }
     ensures { OfRoom room.now (λ L. answer_of carries_amount result ≡ (operate L (read_remaining part.now)).reply) }
 {
-    let seat = seek_account(room, part)?;
-    Ok(numbers::amount(seat.remaining))
+    let Ok(seat) = seek(room, part) else {
+        return Err(Refusal::NameTooLong);
+    };
+    of_account(seat, seat.remaining)
 }
 
 pub fn initial(room: &[u8], part: &[u8]) -> Result<Microcents, Refusal>
     requires { SoundRoom room.now }
     ensures { OfRoom room.now (λ L. answer_of carries_amount result ≡ (operate L (read_initial part.now)).reply) }
 {
-    let seat = seek_account(room, part)?;
-    Ok(numbers::amount(seat.initial))
+    let Ok(seat) = seek(room, part) else {
+        return Err(Refusal::NameTooLong);
+    };
+    of_account(seat, seat.initial)
 }
 
 pub fn committed(room: &[u8], part: &[u8]) -> Result<Microcents, Refusal>
     requires { SoundRoom room.now }
     ensures { OfRoom room.now (λ L. answer_of carries_amount result ≡ (operate L (read_committed part.now)).reply) }
 {
-    let seat = seek_account(room, part)?;
-    Ok(numbers::amount(seat.committed))
+    let Ok(seat) = seek(room, part) else {
+        return Err(Refusal::NameTooLong);
+    };
+    of_account(seat, seat.committed)
 }
 
 // "reserved of one gives 0": a name without an account has nothing reserved.
@@ -67,7 +72,9 @@ pub fn reserved(room: &[u8], part: &[u8]) -> Result<Microcents, Refusal>
     requires { SoundRoom room.now }
     ensures { OfRoom room.now (λ L. answer_of carries_amount result ≡ (operate L (read_reserved part.now)).reply) }
 {
-    let seat = seek(room, part)?;
+    let Ok(seat) = seek(room, part) else {
+        return Err(Refusal::NameTooLong);
+    };
     Ok(numbers::amount(seat.reserved))
 }
 
@@ -81,7 +88,10 @@ fn sum_committed(room: &[u8]) -> Option<u64>
     let mut total = 0;
     for i in 0..used {
         let place = records::load_place(room, i);
-        total = numbers::plus(total, place.committed)?;
+        let Some(more) = numbers::plus(total, place.committed) else {
+            return None;
+        };
+        total = more;
     }
     Some(total)
 }
@@ -91,7 +101,9 @@ pub fn committed_total(room: &[u8]) -> Result<Microcents, Refusal>
     requires { SoundRoom room.now }
     ensures { OfRoom room.now (λ L. answer_of carries_amount result ≡ read_ledger L read_committed_total) }
 {
-    let total = sum_committed(room).ok_or(Refusal::AggregateOverflow)?;
+    let Some(total) = sum_committed(room) else {
+        return Err(Refusal::AggregateOverflow);
+    };
     Ok(numbers::amount(total))
 }
 

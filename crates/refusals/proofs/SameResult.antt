@@ -154,7 +154,9 @@ pub answer-back : {A : Type 0} (carried : A → List Value) (back : Reply → A)
     → ((x : A) → r ≡ Ok x → back (done (carried x)) ≡ x) → answer_back back (answer_of carried r) ≡ r
 unfolding answer_back
 answer-back carried back (Ok x) done-back = ap Ok (done-back x refl)
-answer-back carried back (Err e) done-back = rw (refused-number (refusal_of e)) (ap Err (refusal-back e))
+answer-back carried back (Err e) done-back =
+    let told : Reply = reply_of (refusal_of e) in
+    ap (λ b. cond b (Ok (back told)) (Err (refusal_back told))) (refused-number (refusal_of e)) ∙ ap Err (refusal-back e)
 
 -- what is handed over can be read back from its answer
 abbrev pub HandsOver : {A : Type 0} → (A → List Value) → Type 0

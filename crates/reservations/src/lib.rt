@@ -92,27 +92,24 @@ pub fn reserve(room: &mut [u8], part: &[u8], cost: Microcents) -> Result<Granted
     let Some(asked) = numbers::positive_of(cost) else {
         return Err(Refusal::Insufficient(numbers::amount(0), cost));
     };
-    if !moves::has_account(seat) {
+    let true = moves::has_account(seat) else {
         return Err(Refusal::MissingTenant);
-    }
+    };
     let Some(reserved) = numbers::plus(seat.reserved, asked) else {
         return Err(Refusal::Overflow(numbers::amount(seat.reserved)));
     };
-    if moves::exceeds(seat.limit, reserved) {
+    let false = moves::exceeds(seat.limit, reserved) else {
         return Err(Refusal::ExposureLimitExceeded(
             numbers::amount(seat.reserved),
             numbers::amount(seat.limit),
         ));
-    }
+    };
     let Some(id) = drawn.id else {
         return Err(Refusal::Overflow(numbers::amount(seat.reserved)));
     };
-    let booked = match moves::reserve(seat, asked, reserved) {
-        Ok(booked) => booked,
-        Err(refusal) => {
-            tables::put_head(room, drawn.head);
-            return Err(refusal);
-        }
+    let Ok(booked) = moves::reserve(seat, asked, reserved) else {
+        tables::put_head(room, drawn.head);
+        return Err(Refusal::Insufficient(numbers::amount(seat.remaining), numbers::amount(asked)));
     };
     let Some(i) = found else {
         return Err(Refusal::MissingTenant);
@@ -158,13 +155,15 @@ pub fn commit(room: &mut [u8], id: Identifier, actual: Microcents) -> Result<Com
     let due = due_at(room, j);
     let seat = due.seat;
     let booked = due.amount;
-    if !moves::has_account(seat) {
+    let true = moves::has_account(seat) else {
         return Err(Refusal::MissingTenant);
-    }
+    };
     let Some(committed) = numbers::plus(seat.committed, spent) else {
         return Err(Refusal::Overflow(numbers::amount(seat.remaining)));
     };
-    let ended = moves::commit(seat, booked, spent, committed)?;
+    let Ok(ended) = moves::commit(seat, booked, spent, committed) else {
+        return Err(Refusal::Overrun(numbers::amount(seat.remaining)));
+    };
     end(room, j, due.owner, ended);
     Ok(Committed {
         remaining: numbers::amount(ended.remaining),
@@ -182,7 +181,9 @@ pub fn release(room: &mut [u8], id: Identifier) -> Result<Released, Refusal>
     let due = due_at(room, j);
     let seat = due.seat;
     let booked = due.amount;
-    let returned = moves::release(seat, booked)?;
+    let Ok(returned) = moves::release(seat, booked) else {
+        return Err(Refusal::MissingTenant);
+    };
     end(room, j, due.owner, returned);
     Ok(Released {
         remaining: numbers::amount(returned.remaining),

@@ -53,7 +53,9 @@ pub fn check(bytes: &[u8]) -> Result<(), Refusal>
     let mut at = rules::SNAPSHOT_HEADER;
     let mut long = false;
     for _ in 0..count {
-        let end = row_end(bytes, at).ok_or(Refusal::BadFrame)?;
+        let Some(end) = row_end(bytes, at) else {
+            return Err(Refusal::BadFrame);
+        };
         long |= LONGEST_NAME < bytes[at];
         at = end;
     }

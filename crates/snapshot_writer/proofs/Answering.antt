@@ -24,8 +24,7 @@ use Rattle.records.specs.declared.Head.{Head}
 use Rattle.records.specs.declared.Sizes.{Sizes}
 use Rattle.heads.specs.Heads.{stamped_head}
 use Rattle.refusals.specs.declared.Refusal.{Refusal}
-use Rattle.refusals.specs.declared.Refusal.TheVariants as refusal
-use Rattle.refusals.specs.Answers.{refusal_of, answer_of, carries_snapshot}
+use Rattle.refusals.specs.Answers.{answer_of, carries_snapshot}
 use Rattle.snapshot_writer.specs.Rows.{header_bytes, WritesRows, account_bytes}
 use Rattle.snapshot_writer.specs.declared.Extent.{Extent}
 use Rattle.room.specs.Contents.{contents_of, with_head}
@@ -75,8 +74,8 @@ after-sound L known e = subst (λ (o : Outcome). Sound o.ledger) (writes L longe
 -- ── the head ───────────────────────────────────────────────────────────────────────────────────
 
 module _ (L : Ledger) where
-  stamp-exhausts : (e : Refusal) → stamped_head (head_in L) ≡ Err e → (next_id_is_m L ≡ true) × (e ≡ refusal.AllocatorExhausted)
-  stamp-exhausts e = by-test (λ r. r ≡ Err e → (next_id_is_m L ≡ true) × (e ≡ refusal.AllocatorExhausted)) (next_id_is_m L) (λ last q. (last, cc)) (λ _ q. cc)
+  stamp-exhausts : (e : Refusal) → stamped_head (head_in L) ≡ Err e → next_id_is_m L ≡ true
+  stamp-exhausts e = by-test (λ r. r ≡ Err e → next_id_is_m L ≡ true) (next_id_is_m L) (λ last _. last) (λ _ q. cc)
 
   stamp-draws : (h : Head) → stamped_head (head_in L) ≡ Ok h → (next_id_is_m L ≡ false) × (h ≡ head_in (after_snapshot L))
   stamp-draws h = by-test (λ r. r ≡ Ok h → (next_id_is_m L ≡ false) × (h ≡ head_in (after_snapshot L))) (next_id_is_m L) (λ _ q. cc) (λ e q. (e, cc))
@@ -118,10 +117,8 @@ module _ (xs : List ℕ) (L : Ledger) (room : IsRoom xs L) where
     stamped-here : {r : Result Head Refusal} → r ≡ stamped_head h → stamped_head (head_in L) ≡ r
     stamped-here is = sym (is ∙ ap stamped_head (loaded ∙ head-is xs L room))
 
-    pub answers-exhausted : (e : Refusal) → Err e ≡ stamped_head h → Performed (snapshot size) L (reply_of (refusal_of e)) xs
-    answers-exhausted e is =
-        let last = stamp-exhausts L e (stamped-here is) in
-        promise size L (refused AllocatorExhausted L) _ xs (exhausts L size last.0) (ap (λ e. reply_of (refusal_of e)) last.1) room
+    pub answers-exhausted : {e : Refusal} → Err e ≡ stamped_head h → Performed (snapshot size) L (reply_of AllocatorExhausted) xs
+    answers-exhausted is = promise size L (refused AllocatorExhausted L) _ xs (exhausts L size (stamp-exhausts L _ (stamped-here is))) refl room
 
     module _ {next : Head} (stamped : Ok next ≡ stamped_head h) where
       drawn : (next_id_is_m L ≡ false) × (next ≡ head_in (after_snapshot L))

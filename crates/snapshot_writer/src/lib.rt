@@ -146,7 +146,9 @@ pub fn snapshot(room: &mut [u8], output: &mut [u8]) -> Result<usize, Refusal>
     ensures output { output.new ≡ output_after (answer_of (carries_snapshot output.new) result) output.old }
     ensures size { IfOk result (λ size. size ≤ length output.old) }
 {
-    let head = heads::stamp(records::load_head(room))?;
+    let Ok(head) = heads::stamp(records::load_head(room)) else {
+        return Err(Refusal::AllocatorExhausted);
+    };
     if !has_room(room, output.len()) {
         return Err(Refusal::OutputTooShort);
     }

@@ -11,7 +11,7 @@ use Rattle.rules.specs.SnapshotsMigrationCertificates.{◌gives◌else◌, and_t
 use Rattle.rules.proofs.Tests.{by_bool}
 use Rattle.rules.proofs.Checks.{equals-true}
 use Rattle.refusals.specs.declared.Refusal.{Refusal as Told}
-use Rattle.refusals.specs.Answers.{refusal_of, refusal_in, answer_of, carries_nothing}
+use Rattle.refusals.specs.Answers.{refusal_in, answer_of, carries_nothing}
 
 module _ (fails : Bool) (refusal : Refusal) (later : Option Refusal) where
   pub decides : fails ≡ true → (fails gives refusal else later) ≡ some refusal

@@ -55,14 +55,18 @@ fn balance_of(
 {
     let held = totals::plus(totals::plus(totals::nothing(), remaining), reserved);
     let sum = totals::plus(held, committed);
-    let exact = totals::fit(sum).ok_or(RowRefusal::AggregateOverflow)?;
+    let Some(exact) = totals::fit(sum) else {
+        return Err(RowRefusal::AggregateOverflow);
+    };
     if exact.0 == initial.0 {
         if remaining.0 < 0 {
             return Err(RowRefusal::ConservationViolation(remaining));
         }
         return Ok(());
     }
-    let delta = totals::fit(totals::minus(sum, initial)).ok_or(RowRefusal::AggregateOverflow)?;
+    let Some(delta) = totals::fit(totals::minus(sum, initial)) else {
+        return Err(RowRefusal::AggregateOverflow);
+    };
     Err(RowRefusal::ConservationViolation(delta))
 }
 

@@ -2,10 +2,10 @@
 -- Performing.
 use mathlib.Core.List.{[]}
 use native.Mathlib.Omega.{arith}
-use Rattle.std.proofs.lemmas.Result.{err_from_is_err_and}
-use Rattle.refusals.specs.Answers.{refusal_of}
+use Rattle.rules.specs.AnswerNumbers.{NegativeAmount}
 use Rattle.room.proofs.SoundRoom.{searchable}
 use Rattle.lookup.proofs.Places.{seat-readable}
+use Rattle.accounts.proofs.Writes.{limit-negative}
 use Rattle.accounts.proofs.Performing.{seen, seen-sound, ready, too_long, refuses, writes, limiting}
 use Rattle.accounts.proofs.limit.Goals as goal
 
@@ -21,21 +21,20 @@ seat_at-seat-requires c = seat-readable c.args.room.now c.requires c.args.part.n
 pub limit-requires : goal.limit-requires
 limit-requires c = seen-sound (seen c.requires c.if-part-gt-LONGEST_NAME.false c.find-found.ensures c.seat_at-seat.ensures)
 
-pub returns-in_err-changed : goal.returns-in_err-changed
-returns-in_err-changed c =
+pub returns-in_default : goal.returns-in_default
+returns-in_default c =
     let limits = limiting c.args.part.now c.args.amount.0 c.type_inv.part (omega arith) in
     let looked = seen c.requires c.if-part-gt-LONGEST_NAME.false c.find-found.ensures c.seat_at-seat.ensures in
-    let returned = err_from_is_err_and c.from_residual.result c.from_residual.ensures.1 in
-    rw (returned.1, returned.2) (refuses limits looked (refusal_of c.in_err-changed.field-0.0) c.in_err-changed.ensures.0)
+    refuses limits looked (NegativeAmount c.args.amount.0) (limit-negative c.args.amount.0 _ _ _ c.in_default.ensures.0)
 
 pub write_seat-requires : goal.write_seat-requires
 write_seat-requires c =
     let limits = limiting c.args.part.now c.args.amount.0 c.type_inv.part (omega arith) in
     let looked = seen c.requires c.if-part-gt-LONGEST_NAME.false c.find-found.ensures c.seat_at-seat.ensures in
-    ready looked limits [] c.in_ok-changed.changed c.in_ok-changed.ensures.0 c.in_ok-changed.ensures.1
+    ready looked limits [] c.in-Ok.changed c.in-Ok.ensures.0 c.in-Ok.ensures.1
 
 pub returns : goal.returns
 returns c =
     let limits = limiting c.args.part.now c.args.amount.0 c.type_inv.part (omega arith) in
     let looked = seen c.requires c.if-part-gt-LONGEST_NAME.false c.find-found.ensures c.seat_at-seat.ensures in
-    writes limits looked [] c.in_ok-changed.changed c.in_ok-changed.ensures.0 c.write_seat.new.room c.write_seat.result c.write_seat.ensures
+    writes limits looked [] c.in-Ok.changed c.in-Ok.ensures.0 c.write_seat.new.room c.write_seat.result c.write_seat.ensures

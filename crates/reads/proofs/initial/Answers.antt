@@ -1,22 +1,17 @@
--- `reads::initial` meets its contract: of the ledger's seat of the name it tells what the rule reads, or the same refusal.
-use mathlib.Core.Path.{◌∙◌, ap}
-use mathlib.Core.List.{[], ◌∷◌}
-use Rattle.std.proofs.lemmas.Result.{err_from_is_err_and}
-use Rattle.rules.specs.AnswerNumbers.{Amount, done}
+-- `reads::initial` meets its contract: of the ledger's seat of the name it tells what the rule reads, and of a name that is too long 19.
+use mathlib.Core.Path.{◌∙◌}
+use native.Mathlib.Omega.{arith}
 use Rattle.rules.specs.AccountRules.{operate}
-use Rattle.reads.proofs.Seeking.{read-account, account-small}
+use Rattle.reads.proofs.Seeking.{taken-before, sought-long, read-account, sought-small}
 use Rattle.reads.proofs.initial.Goals as goal
 
-pub returns-in_err-seat : goal.returns-in_err-seat
+pub returns-in_default : goal.returns-in_default
 unfolding operate
-returns-in_err-seat c L room =
-    let p = err_from_is_err_and c.from_residual.result c.from_residual.ensures.1 in
-    rw (p.1, p.2) (read-account L _ (λ a. a.initial) _ (c.in_err-seat.ensures L room))
+returns-in_default c L room = read-account L _ (λ a. a.initial) _ (sought-long L _ _ (c.in_default.ensures L room))
 
-pub amount-requires : goal.amount-requires
-amount-requires c = (account-small _ c.requires _ _ c.in_ok-seat.ensures).initial
+pub of_account-requires : goal.of_account-requires
+of_account-requires c = omega (arith, sought-small _ c.requires _ _ c.in-Ok.ensures)
 
 pub returns : goal.returns
 unfolding operate
-returns c L room =
-    ap (λ z. done (Amount z ∷ [])) c.amount.ensures ∙ read-account L _ (λ a. a.initial) _ (c.in_ok-seat.ensures L room)
+returns c L room = c.of_account.ensures ∙ taken-before (λ s. s.initial) _ ∙ read-account L _ (λ a. a.initial) _ (c.in-Ok.ensures L room)

@@ -1,5 +1,5 @@
--- `reads::sum_committed` meets its contract: each place adds what it has committed, and a part of the total that is above M says that all of it is. What
--- `plus` answered is found by `grind`, through whatever step follows it: an edit that puts one there is refused for its value alone.
+-- `reads::sum_committed` meets its contract: each place adds what it has committed, and a part of the total that is above M says that all of it is. `search`
+-- finds that None is told there, through whatever is told: an edit that tells something else is refused for its value alone.
 use mathlib.Core.Path.{sym, ◌∙◌}
 use Prim.Native.Nat.{◌+◌}
 use native.Mathlib.Omega.{arith}
@@ -14,15 +14,15 @@ loop-i-init c = record { sum = sym (sum-none committed_in _ (sized _ _ c.require
 pub load_place-place-requires : goal.load_place-place-requires
 load_place-place-requires c = place-within _ c.requires _ c.load_sizes-sizes.ensures _ c.loop-i-test.true
 
-pub returns-in_err-total : goal.returns-in_err-total
-returns-in_err-total c L room =
-    let above = above-summed (c.loop-i.total + c.load_place-place.result.committed) (grind arith) in
+pub returns-in_default : goal.returns-in_default
+returns-in_default c L room =
+    let above = above-summed (c.loop-i.total + c.load_place-place.result.committed) c.in_default.ensures in
     let next = place-adds _ c.requires _ c.load_sizes-sizes.ensures _ c.loop-i-test.true committed_in _ c.load_place-place.ensures in
-    rw c.from_residual.ensures (summed-above _ (omega (arith, above, next, c.loop-i.invariant.sum, committed-part _ L room (c.loop-i.i + 1))))
+    summed-above _ _ (search) (omega (arith, above, next, c.loop-i.invariant.sum, committed-part _ L room (c.loop-i.i + 1)))
 
 pub loop-i-preserved : goal.loop-i-preserved
 loop-i-preserved c =
-    let added = within-summed (c.loop-i.total + c.load_place-place.result.committed) c.in_ok-total.total (grind arith) in
+    let added = within-summed (c.loop-i.total + c.load_place-place.result.committed) c.in-Some.more c.in-Some.ensures in
     let next = place-adds _ c.requires _ c.load_sizes-sizes.ensures _ c.loop-i-test.true committed_in _ c.load_place-place.ensures in
     record { sum = omega (arith, added.0, next, c.loop-i.invariant.sum); small = added.1 }
 

@@ -2,12 +2,12 @@
 -- Ending.
 use native.Mathlib.Omega.{arith}
 use mathlib.Core.Path.{refl}
-use Rattle.std.proofs.lemmas.Result.{err_from_is_err_and}
-use Rattle.rules.specs.AnswerNumbers.{MissingReservation}
+use Rattle.rules.specs.AnswerNumbers.{MissingTenant, MissingReservation}
 use Rattle.rules.specs.AccountRules.{release_rule}
 use Rattle.refusals.specs.Answers.{refusal_of}
 use Rattle.room.proofs.SoundRoom.{searchable}
 use Rattle.room.proofs.Seating.{seat-small}
+use Rattle.reservations.proofs.Fitting.{release-missing}
 use Rattle.reservations.proofs.Ending.{releasing, seen, readable, allowed, ready, misses, leaves, ends}
 use Rattle.reservations.proofs.release.Goals as goal
 
@@ -24,17 +24,16 @@ due_at-due-requires c = readable c.args.room.now c.requires c.args.id.0 c.in-Som
 pub release-requires : goal.release-requires
 release-requires c = allowed (seen c.requires c.in-Some.ensures c.due_at-due.ensures)
 
-pub returns-in_err-returned : goal.returns-in_err-returned
-returns-in_err-returned c =
+pub returns-in_default-release : goal.returns-in_default-release
+returns-in_default-release c =
     let looked = seen c.requires c.in-Some.ensures c.due_at-due.ensures in
-    let answered = err_from_is_err_and c.from_residual.result c.from_residual.ensures.1 in
-    rw (answered.1, answered.2) (leaves (releasing c.args.id.0) looked (refusal_of c.in_err-returned.field-0.0) c.in_err-returned.ensures.0)
+    leaves (releasing c.args.id.0) looked MissingTenant (release-missing _ _ _ (refusal_of c.in_default-release.field-0) c.in_default-release.ensures.0)
 
 pub end-requires : goal.end-requires
 end-requires c = ready (seen c.requires c.in-Some.ensures c.due_at-due.ensures)
 
 pub amount-requires : goal.amount-requires
-amount-requires c = (seat-small c.in_ok-returned.returned c.in_ok-returned.ensures.1).remaining
+amount-requires c = (seat-small c.in-Ok.returned c.in-Ok.ensures.1).remaining
 
 -- what was reserved is part of an account
 pub amount-requires-2 : goal.amount-requires-2
@@ -45,5 +44,5 @@ amount-requires-2 c =
 pub returns : goal.returns
 returns c =
     let looked = seen c.requires c.in-Some.ensures c.due_at-due.ensures in
-    let returned = c.in_ok-returned in
+    let returned = c.in-Ok in
     rw (c.amount.ensures, c.amount-2.ensures) (ends (releasing c.args.id.0) looked _ returned.returned returned.ensures.0 returned.ensures.1 c.end.new.room c.end.ensures)

@@ -1,9 +1,7 @@
 -- `snapshot_reader::check` meets its contract: each step of the pass, and each of its ends, is a law of Passing.
-use mathlib.Core.Path.{◌≡◌}
 use mathlib.Core.Bool.{true, false}
 use Prim.Native.Nat.{◌+◌, ◌-◌}
 use native.Mathlib.Omega.{arith}
-use Rattle.std.specs.Prelude.{None}
 use Rattle.snapshot_reader.proofs.Passing.{refused, by_rows, passed, broken, left_over, ended}
 use Rattle.snapshot_reader.proofs.check.Goals as goal
 
@@ -16,14 +14,11 @@ returns-then-count-gt-MOST_ROWS c = refused c.args.bytes.now (λ _. omega (arith
 pub loop-init : goal.loop-init
 loop-init c = by_rows c.args.bytes.now (omega (arith, c.read2-count.ensures)) (omega arith) (omega arith)
 
-pub returns-in_err-end : goal.returns-in_err-end
-returns-in_err-end c =
-    let none : c.row_end.result ≡ None = grind arith in
-    let is = broken c.loop.invariant (c.read2-count.result - (c.loop.counter + 1)) (omega arith) c.row_end.ensures none in
-    grind arith
+pub returns-in_default : goal.returns-in_default
+returns-in_default c = broken c.loop.invariant (c.read2-count.result - (c.loop.counter + 1)) (omega arith) c.row_end.ensures c.in_default.is
 
 pub loop-preserved : goal.loop-preserved
-loop-preserved c = passed c.loop.invariant (c.read2-count.result - (c.loop.counter + 1)) (omega arith) c.in_ok-end.end c.row_end.ensures (grind arith)
+loop-preserved c = passed c.loop.invariant (c.read2-count.result - (c.loop.counter + 1)) (omega arith) c.in-Some.end c.row_end.ensures c.in-Some.is
 
 pub returns-then-at-bytes : goal.returns-then-at-bytes
 returns-then-at-bytes c = left_over c.loop.invariant (omega arith) c.if-at-bytes.true

@@ -6,7 +6,7 @@ use native.Mathlib.Omega.{arith}
 use borrow.Author.Tests.{lt-ltb, le-ltb}
 use Rattle.std.specs.Prelude.{Err}
 use Rattle.rules.specs.AnswerNumbers.{ActiveReservations}
-use Rattle.rules.specs.SnapshotsMigrationCertificates.{and_then, conservation, validation}
+use Rattle.rules.specs.SnapshotsMigrationCertificates.{validation}
 use Rattle.refusals.specs.Answers.{refusal_in}
 use Rattle.validation.proofs.Deciding.{decides, goes_on, refuses, passes_on}
 use Rattle.validation.proofs.validation.Goals as goal
