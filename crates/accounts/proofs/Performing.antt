@@ -78,6 +78,12 @@ module _ {xs : List ℕ} {a : Name} {found : Found ℕ} {s : Seat} (looked : See
   ready o zs t e known =
       (looked.sound, looked.short, known, looked.found_is, λ L room v. sym (seen-account L room) ∙ o.vacates (account_of s) s.limit zs (meaning t) e v)
 
+-- of the writing of a seat there is one refusal, 20
+pub full : {a : Name} {t : Seat} {L : Ledger} {xs ys : List ℕ} {e : TheRefusal} → WritesSeat a t L xs ys (Err e) → WritesSeat a t L xs ys (Err NamesFull)
+full {a} {t} {L} {e = e} w =
+    let Told : Bool → Result (Unit {0}) TheRefusal → Type 0 = λ b r. r ≡ cond b (Ok tt) (Err NamesFull) in
+    record { answer = by_bool (λ b. Told b (Err e) → Told b (Err NamesFull)) (has_room a (meaning t) L) (λ _ q. cc) (λ _ _. refl) w.answer; size = w.size; holds = w.holds }
+
 -- ── the operation carried out ──────────────────────────────────────────────────────────────────
 
 module _ {a : Name} (o : OnName a) (L : Ledger) where

@@ -33,7 +33,10 @@ pub fn ensure(room: &mut [u8], part: &[u8], amount: Microcents) -> Result<(), Re
     let Some(opened) = moves::ensure(seat, opening) else {
         return Ok(());
     };
-    seats::write_seat(room, part, found, opened)
+    let Ok(()) = seats::write_seat(room, part, found, opened) else {
+        return Err(Refusal::NamesFull);
+    };
+    Ok(())
 }
 
 pub fn top_up(room: &mut [u8], part: &[u8], amount: Microcents) -> Result<ToppedUp, Refusal>
@@ -74,5 +77,8 @@ pub fn limit(room: &mut [u8], part: &[u8], amount: Microcents) -> Result<(), Ref
     let Ok(changed) = moves::limit(seat, amount) else {
         return Err(Refusal::NegativeAmount(amount));
     };
-    seats::write_seat(room, part, found, changed)
+    let Ok(()) = seats::write_seat(room, part, found, changed) else {
+        return Err(Refusal::NamesFull);
+    };
+    Ok(())
 }

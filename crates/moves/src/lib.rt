@@ -34,9 +34,9 @@ pub fn ensure(seat: Seat, opening: u64) -> Option<Seat>
     requires { SeatSound seat × (opening ≤ M) }
     ensures { (ensuring_move result ≡ ensure_rule (pos opening) (account_of seat) seat.limit) × IfSome result SeatSound }
 {
-    if has_account(seat) {
+    let false = has_account(seat) else {
         return None;
-    }
+    };
     Some(Seat {
         initial: opening,
         remaining: opening,
@@ -125,9 +125,9 @@ pub fn release(seat: Seat, booked: Held) -> Result<Seat, Refusal>
     requires { SeatSound seat × (booked.0 ≤ seat.reserved) }
     ensures { (releasing_settlement booked.0 result ≡ release_rule (some booked.0) (account_of seat) seat.limit) × IfOk result SeatSound }
 {
-    if !has_account(seat) {
+    let true = has_account(seat) else {
         return Err(Refusal::MissingTenant);
-    }
+    };
     Ok(Seat {
         remaining: seat.remaining + booked.0,
         reserved: seat.reserved - booked.0,

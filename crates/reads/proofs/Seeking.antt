@@ -44,9 +44,9 @@ module _ (L : Ledger) (a : Name) where
       seat_is ∙ ap (λ f. seat_found f (used_places (contents_of xs))) found_is ∙ ap (λ ps. seat_found (place_of_name a ps) ps) (places-are xs L room) ∙ seat-found a L.places in
       rw (le-ltb longest_name (length a) short) (ap Ok is)
 
-  -- no seat is sought of a name that is too long alone
-  pub sought-long : (e : Refusal) → Err e ≡ sought L a → Err NameTooLong ≡ sought L a
-  sought-long e =
+  -- what is sought has one refusal, 19
+  pub sought-refused : (e : Refusal) → Err e ≡ sought L a → Err NameTooLong ≡ sought L a
+  sought-refused e =
       let seat = kept_seat (seat_in a L.places) in
       by_bool (λ b. Err e ≡ cond b (Err NameTooLong) (Ok seat) → Err NameTooLong ≡ cond b (Err NameTooLong) (Ok seat)) (is_too_long a)
       (λ _ _. refl) (λ _ is. absurd (let z : ◌≡◌ {A = ℕ} 0 1 = cc in omega arith))

@@ -18,7 +18,7 @@ use Rattle.numbers.specs.declared.Microcents.{Microcents}
 use Rattle.names.specs.declared.Name.{Name}
 use Rattle.names.specs.Names.{spelled, stored, IsStored}
 use Rattle.names.proofs.Storing.{stored-is-stored, stored-spelled}
-use Rattle.refusals.specs.declared.tenant_name.TenantName.{TenantName}
+use Rattle.refusals.specs.declared.tenant_name.TenantName.{TenantName, stored-type}
 use Rattle.refusals.specs.declared.Refusal.{Refusal}
 use Rattle.refusals.specs.declared.Refusal.TheVariants as refusal
 use Rattle.refusals.specs.Answers.{refusal_of, answer_of, carries_nothing, carries_amount, carries_count, carries_version}
@@ -52,21 +52,25 @@ module _ {R : Type 0} (reply : R → Reply) (read : ReadBack reply) where
 
 -- ── the name that a refusal carries ────────────────────────────────────────────────────────────
 
--- the name that bytes spell, of which no more count than a name has
+-- the name that bytes spell, of which no more count than a name has; what its type asks of it, and gives, is found by `search`: so an edit of that is refused
+-- for what it says
 tenant_of : List ℕ → TenantName
-tenant_of a = record { name = stored (take longest_name a); stored = stored-is-stored (take longest_name a) (rw length-take (omega arith)) }
+tenant_of a =
+    let is : IsStored (stored (take longest_name a)) = stored-is-stored (take longest_name a) (rw length-take (omega arith)) in
+    record { name = stored (take longest_name a); stored = (search) }
 
--- that a name is in its stored form has one proof at most
-stored-prop : (n : Name) → IsProp (IsStored n)
+-- what its type says of it has one proof at most
+stored-prop : (n : Name) → IsProp (stored-type n)
 stored-prop n = hlevel props
 
 tenant-back : (t : TenantName) → tenant_of (spelled t.name) ≡ t
 unfolding tenant_of
 tenant-back t =
+    let known : IsStored t.name = search t.stored in
     let short : take longest_name (spelled t.name) ≡ spelled t.name =
-    take_all longest_name (spelled t.name) (omega (arith, length-take-le t.name.length t.name.bytes (omega (arith, t.stored.fits, t.stored.width)), t.stored.fits)) in
-    let same : stored (take longest_name (spelled t.name)) ≡ t.name = ap stored short ∙ stored-spelled t.name t.stored in
-    λ i. record { name = same i; stored = is_prop→PathP (λ j. IsStored (same j)) (λ j. stored-prop (same j)) (tenant_of (spelled t.name)).stored t.stored i }
+    take_all longest_name (spelled t.name) (omega (arith, length-take-le t.name.length t.name.bytes (omega (arith, known.fits, known.width)), known.fits)) in
+    let same : stored (take longest_name (spelled t.name)) ≡ t.name = ap stored short ∙ stored-spelled t.name known in
+    λ i. record { name = same i; stored = is_prop→PathP (λ j. stored-type (same j)) (λ j. stored-prop (same j)) (tenant_of (spelled t.name)).stored t.stored i }
 
 -- ── a refusal ──────────────────────────────────────────────────────────────────────────────────
 
@@ -107,6 +111,7 @@ refusal_back r =
     ∷ [])
     refusal.UnsoundLedger
 
+-- that a 13 tells its name, and below that a refusal is told as its own reply, is found by `grind`: so an edit of either definition is refused for what it says
 refusal-back : (e : Refusal) → refusal_back (reply_of (refusal_of e)) ≡ e
 refusal-back (refusal.NegativeAmount value) = refl
 refusal-back refusal.InvalidAmount = refl
@@ -121,7 +126,9 @@ refusal-back refusal.AllocatorExhausted = refl
 refusal-back (refusal.ActiveReservations count) = refl
 refusal-back (refusal.DuplicateTenant tenant) = ap refusal.DuplicateTenant (tenant-back tenant)
 refusal-back (refusal.GhostReservation tenant reserved) = ap (λ t. refusal.GhostReservation t reserved) (tenant-back tenant)
-refusal-back (refusal.NegativeLedgerField tenant field value) = ap (λ t. refusal.NegativeLedgerField t field value) (tenant-back tenant)
+refusal-back (refusal.NegativeLedgerField tenant field value) =
+    let told : bytes_at (reply_of (refusal_of (refusal.NegativeLedgerField tenant field value))) 0 ≡ spelled tenant.name = grind arith in
+    ap (λ a. refusal.NegativeLedgerField (tenant_of a) field value) told ∙ ap (λ t. refusal.NegativeLedgerField t field value) (tenant-back tenant)
 refusal-back (refusal.ConservationViolation tenant delta) = ap (λ t. refusal.ConservationViolation t delta) (tenant-back tenant)
 refusal-back refusal.AggregateOverflow = refl
 refusal-back refusal.AlreadyRecoveryAware = refl
@@ -156,7 +163,8 @@ unfolding answer_back
 answer-back carried back (Ok x) done-back = ap Ok (done-back x refl)
 answer-back carried back (Err e) done-back =
     let told : Reply = reply_of (refusal_of e) in
-    ap (λ b. cond b (Ok (back told)) (Err (refusal_back told))) (refused-number (refusal_of e)) ∙ ap Err (refusal-back e)
+    let is : answer_of carried (Err e) ≡ told = grind arith in
+    ap (answer_back back) is ∙ ap (λ b. cond b (Ok (back told)) (Err (refusal_back told))) (refused-number (refusal_of e)) ∙ ap Err (refusal-back e)
 
 -- what is handed over can be read back from its answer
 abbrev pub HandsOver : {A : Type 0} → (A → List Value) → Type 0

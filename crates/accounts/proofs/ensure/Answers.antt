@@ -3,14 +3,15 @@
 use mathlib.Core.Path.{sym}
 use mathlib.Core.List.{[]}
 use native.Mathlib.Omega.{arith}
-use Rattle.std.specs.Prelude.{Some, None}
+use Rattle.std.specs.Prelude.{Some, None, Ok, Err}
 use Rattle.rules.specs.AnswerNumbers.{NegativeAmount}
+use Rattle.refusals.specs.declared.Refusal.TheVariants.{NamesFull}
 use Rattle.numbers.proofs.Amounts.{natural-none, natural-some}
 use Rattle.moves.proofs.Cases.{natural-small, ensure-negative}
 use Rattle.room.proofs.SoundRoom.{searchable}
 use Rattle.lookup.proofs.Places.{seat-readable}
 use Rattle.accounts.proofs.Writes.{ensure-decides}
-use Rattle.accounts.proofs.Performing.{seen, seen-sound, ready, too_long, refuses, tells, writes, ensuring}
+use Rattle.accounts.proofs.Performing.{seen, seen-sound, ready, full, too_long, refuses, tells, writes, ensuring}
 use Rattle.accounts.proofs.ensure.Goals as goal
 
 pub returns-then-part-gt-LONGEST_NAME : goal.returns-then-part-gt-LONGEST_NAME
@@ -46,10 +47,18 @@ write_seat-requires c =
     let opened = c.in-Some-ensure.opened in
     ready looked ensures [] opened (ensure-decides c.args.amount.0 c.in-Some.opening _ _ (Some opened) c.in-Some.ensures c.in-Some-ensure.ensures.0) c.in-Some-ensure.ensures.1
 
+pub returns-in_default-write_seat : goal.returns-in_default-write_seat
+returns-in_default-write_seat c =
+    let ensures = ensuring c.args.part.now c.args.amount.0 c.type_inv.part (omega arith) in
+    let looked = seen c.requires c.if-part-gt-LONGEST_NAME.false c.find-found.ensures c.seat_at-seat.ensures in
+    let opened = c.in-Some-ensure.opened in
+    let move = ensure-decides c.args.amount.0 c.in-Some.opening _ _ (Some opened) c.in-Some.ensures c.in-Some-ensure.ensures.0 in
+    writes ensures looked [] opened move c.write_seat.new.room (Err NamesFull) (λ L r. full (c.in_default-write_seat.ensures L r))
+
 pub returns : goal.returns
 returns c =
     let ensures = ensuring c.args.part.now c.args.amount.0 c.type_inv.part (omega arith) in
     let looked = seen c.requires c.if-part-gt-LONGEST_NAME.false c.find-found.ensures c.seat_at-seat.ensures in
     let opened = c.in-Some-ensure.opened in
     let move = ensure-decides c.args.amount.0 c.in-Some.opening _ _ (Some opened) c.in-Some.ensures c.in-Some-ensure.ensures.0 in
-    writes ensures looked [] opened move c.write_seat.new.room c.write_seat.result c.write_seat.ensures
+    writes ensures looked [] opened move c.write_seat.new.room (Ok tt) c.in-Ok.ensures

@@ -2,11 +2,13 @@
 -- Performing.
 use mathlib.Core.List.{[]}
 use native.Mathlib.Omega.{arith}
+use Rattle.std.specs.Prelude.{Ok, Err}
 use Rattle.rules.specs.AnswerNumbers.{NegativeAmount}
+use Rattle.refusals.specs.declared.Refusal.TheVariants.{NamesFull}
 use Rattle.room.proofs.SoundRoom.{searchable}
 use Rattle.lookup.proofs.Places.{seat-readable}
 use Rattle.accounts.proofs.Writes.{limit-negative}
-use Rattle.accounts.proofs.Performing.{seen, seen-sound, ready, too_long, refuses, writes, limiting}
+use Rattle.accounts.proofs.Performing.{seen, seen-sound, ready, full, too_long, refuses, writes, limiting}
 use Rattle.accounts.proofs.limit.Goals as goal
 
 pub returns-then-part-gt-LONGEST_NAME : goal.returns-then-part-gt-LONGEST_NAME
@@ -33,8 +35,14 @@ write_seat-requires c =
     let looked = seen c.requires c.if-part-gt-LONGEST_NAME.false c.find-found.ensures c.seat_at-seat.ensures in
     ready looked limits [] c.in-Ok.changed c.in-Ok.ensures.0 c.in-Ok.ensures.1
 
+pub returns-in_default-write_seat : goal.returns-in_default-write_seat
+returns-in_default-write_seat c =
+    let limits = limiting c.args.part.now c.args.amount.0 c.type_inv.part (omega arith) in
+    let looked = seen c.requires c.if-part-gt-LONGEST_NAME.false c.find-found.ensures c.seat_at-seat.ensures in
+    writes limits looked [] c.in-Ok.changed c.in-Ok.ensures.0 c.write_seat.new.room (Err NamesFull) (λ L r. full (c.in_default-write_seat.ensures L r))
+
 pub returns : goal.returns
 returns c =
     let limits = limiting c.args.part.now c.args.amount.0 c.type_inv.part (omega arith) in
     let looked = seen c.requires c.if-part-gt-LONGEST_NAME.false c.find-found.ensures c.seat_at-seat.ensures in
-    writes limits looked [] c.in-Ok.changed c.in-Ok.ensures.0 c.write_seat.new.room c.write_seat.result c.write_seat.ensures
+    writes limits looked [] c.in-Ok.changed c.in-Ok.ensures.0 c.write_seat.new.room (Ok tt) c.in-Ok-write_seat.ensures

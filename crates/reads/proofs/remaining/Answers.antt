@@ -2,12 +2,12 @@
 use mathlib.Core.Path.{◌∙◌}
 use native.Mathlib.Omega.{arith}
 use Rattle.rules.specs.AccountRules.{operate}
-use Rattle.reads.proofs.Seeking.{taken-before, sought-long, read-account, sought-small}
+use Rattle.reads.proofs.Seeking.{taken-before, sought-refused, read-account, sought-small}
 use Rattle.reads.proofs.remaining.Goals as goal
 
 pub returns-in_default : goal.returns-in_default
 unfolding operate
-returns-in_default c L room = read-account L _ (λ a. a.remaining) _ (sought-long L _ _ (c.in_default.ensures L room))
+returns-in_default c L room = read-account L _ (λ a. a.remaining) _ (sought-refused L _ _ (c.in_default.ensures L room))
 
 pub of_account-requires : goal.of_account-requires
 of_account-requires c = omega (arith, sought-small _ c.requires _ _ c.in-Ok.ensures)

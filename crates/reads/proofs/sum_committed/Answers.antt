@@ -1,5 +1,5 @@
 -- `reads::sum_committed` meets its contract: each place adds what it has committed, and a part of the total that is above M says that all of it is. `search`
--- finds that None is told there, through whatever is told: an edit that tells something else is refused for its value alone.
+-- finds that what is told there comes to None: an edit that tells another value is refused at that value.
 use mathlib.Core.Path.{sym, ◌∙◌}
 use Prim.Native.Nat.{◌+◌}
 use native.Mathlib.Omega.{arith}
