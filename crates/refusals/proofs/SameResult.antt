@@ -111,7 +111,7 @@ refusal_back r =
     ∷ [])
     refusal.UnsoundLedger
 
--- that a 13 tells its name, and below that a refusal is told as its own reply, is found by `grind`: so an edit of either definition is refused for what it says
+-- that a 13 tells its name, and below that a refusal is told as its own reply, is found by `grind`: so an edit of that is refused for what it says
 refusal-back : (e : Refusal) → refusal_back (reply_of (refusal_of e)) ≡ e
 refusal-back (refusal.NegativeAmount value) = refl
 refusal-back refusal.InvalidAmount = refl
